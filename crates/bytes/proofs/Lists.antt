@@ -1,13 +1,13 @@
 -- Lists of bytes: their bounds, and exclusive-or.
 use mathlib.Core.Path.{_≡_, refl, sym, ap, ap₂, _∙_, subst}
 use mathlib.Core.List.{List, [], _∷_, _++_}
-use Prim.Native.Nat.{ℕ, zero, suc, _<_}
+use Prim.Native.Nat.{ℕ, zero, suc, _+_, _<_, _≤_}
 use native.Mathlib.Omega.{arith}
 use native.Mathlib.Nat.{le-of-suc-le-suc}
 use lib.Bits.{bitXor, xor-assoc, xor-self, xor-zero-r, xor-lt}
-use lib.ListN.{length, getD}
+use lib.ListN.{length, getD, take, drop, length-take, length-drop, length-append}
 use Rattle.std.specs.shelf.Lists.{All}
-use Rattle.std.proofs.shelf.Elements.{all-from-getD, all-getD}
+use Rattle.std.proofs.shelf.Elements.{all-from-getD, all-getD, all-take, all-drop, all-append}
 use Rattle.bytes.specs.Little.{Bytes, xored}
 
 -- the two ways to say that each is below 256
@@ -44,3 +44,22 @@ xored-all (x ∷ xs) (y ∷ ys) a b = (xor-lt 8 x y (a .0) (b .0), xored-all xs 
 pub xored-bytes : (n : ℕ) (xs ys : List ℕ) → Bytes n xs → Bytes n ys → Bytes n (xored xs ys)
 xored-bytes n xs ys h k =
     of-all n (xored xs ys) (length-xored xs ys (h .0 ∙ sym (k .0)) ∙ h .0) (xored-all xs ys (all-of n xs h) (all-of n ys k))
+
+-- m bytes from place i on
+pub part-bytes : (i m n : ℕ) (xs : List ℕ) → i + m ≤ n → Bytes n xs → Bytes m (take m (drop i xs))
+part-bytes i m n xs l h =
+    let e = h .0 in
+    of-all m (take m (drop i xs)) (simp (length-take, length-drop) (omega arith))
+    (all-take (λ b. b < 256) m (drop i xs) (all-drop (λ b. b < 256) i xs (all-of n xs h)))
+
+-- all from place i on
+pub rest-bytes : (i m n : ℕ) (xs : List ℕ) → i + m ≡ n → Bytes n xs → Bytes m (drop i xs)
+rest-bytes i m n xs l h =
+    let e = h .0 in
+    of-all m (drop i xs) (simp length-drop (omega arith)) (all-drop (λ b. b < 256) i xs (all-of n xs h))
+
+pub append-bytes : (m n : ℕ) (xs ys : List ℕ) → Bytes m xs → Bytes n ys → Bytes (m + n) (xs ++ ys)
+append-bytes m n xs ys h k =
+    let e = h .0 in
+    let f = k .0 in
+    of-all (m + n) (xs ++ ys) (simp length-append (omega arith)) (all-append (λ b. b < 256) xs ys (all-of m xs h) (all-of n ys k))

@@ -2,7 +2,7 @@
 use mathlib.Core.Path.{_≡_, refl, sym, ap, ap₂, _∙_, subst}
 use mathlib.Core.List.{List, [], _∷_, _++_}
 use Prim.Native.Nat.{ℕ, zero, suc, _+_, _-_, _*_, _/_, _%_, _^_, _<_, _≤_}
-use native.Mathlib.Nat.{pow-suc, pow-zero, div-div-eq-div-mul, zero-add, suc-add, div-one, mul-comm}
+use native.Mathlib.Nat.{pow-suc, pow-zero, div-div-eq-div-mul, zero-add, suc-add, div-one, mul-comm, mul-assoc}
 use native.Mathlib.Omega.{arith}
 use lib.Arith.{mod-mul}
 use lib.Bits.{bitXor, xor-mod, xor-shr}
@@ -51,6 +51,15 @@ bytes-number n bs h = subst (λ (m : ℕ). le-bytes m (le-number bs) ≡ bs) (h 
 pub bytes-xor : (n x y : ℕ) → le-bytes n (bitXor x y) ≡ xored (le-bytes n x) (le-bytes n y)
 bytes-xor zero x y = refl
 bytes-xor (suc n) x y = ap₂ _∷_ (xor-mod x y 8) (ap (le-bytes n) (xor-shr x y 8) ∙ bytes-xor n (x / 256) (y / 256))
+
+-- the number of the first m bytes, and that of the rest above it
+pub number-split : (m : ℕ) (xs : List ℕ) → le-number xs ≡ le-number (take m xs) + 256 ^ m * le-number (drop m xs)
+number-split zero xs = rw pow-zero (omega arith)
+number-split (suc m) [] = omega arith
+number-split (suc m) (x ∷ xs) =
+    let d : ℕ = le-number (drop m xs) in
+    let f : 256 ^ suc m * d ≡ 256 * (256 ^ m * d) = ap (λ (k : ℕ). k * d) (pow-suc 256 m ∙ mul-comm (256 ^ m) 256) ∙ mul-assoc 256 (256 ^ m) d in
+    omega (arith, number-split m xs, f)
 
 -- the low bytes, and then those above them
 pub bytes-split : (m n x : ℕ) → le-bytes (m + n) x ≡ le-bytes m x ++ le-bytes n (x / 256 ^ m)

@@ -1,0 +1,4 @@
+pub mod Rotate
+pub mod Rounds
+pub mod Blocks
+pub mod Laws
