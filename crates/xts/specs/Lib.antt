@@ -1,0 +1,3 @@
+pub mod Xts
+pub mod Calls
+pub mod Theorems
