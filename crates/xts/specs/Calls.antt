@@ -32,3 +32,8 @@ Makes demands made before (Err e) after = FirstUnmet demands (numbered e) × (af
 abbrev pub Taken : {K : Type 0} → List ℕ → (K → List ℕ) → Result K Refusal → Type 0
 Taken key bytes-of (Ok k) = AllMet (key-demands key) × (bytes-of k ≡ key)
 Taken key bytes-of (Err e) = FirstUnmet (key-demands key) (numbered e)
+
+-- a call's key, input and output that pass the tests: the key is taken and the input copied
+abbrev pub Copied : {K : Type 0} → List ℕ → (K → List ℕ) → List ℕ → List ℕ → Result K Refusal → List ℕ → Type 0
+Copied key bytes-of input before (Ok k) after = AllMet (call-demands key input before) × (bytes-of k ≡ key) × (after ≡ input)
+Copied key bytes-of input before (Err e) after = FirstUnmet (call-demands key input before) (numbered e) × (after ≡ before)

@@ -5,7 +5,7 @@ ghost use Prim.Native.Nat.{ℕ, _≤_};
 ghost use lib.ListN.{length, take, drop};
 ghost use Rattle.bytes.specs.Little.{le-bytes, le-number};
 ghost use Rattle.xts.specs.Xts.{encipher as encipherOf, decipher as decipherOf, check as checkOf};
-ghost use Rattle.xts.specs.Calls.{key-demands, unit-demands, call-demands, Makes, Taken};
+ghost use Rattle.xts.specs.Calls.{unit-demands, call-demands, Makes, Taken, Copied};
 ghost use Rattle.xts.specs.Theorems.{Each-undoes-the-other};
 use cipher::Cipher;
 use refusal::Refusal;
@@ -47,4 +47,101 @@ impl<C: Cipher> UnitKey<C> {
             key2: C::new(&second),
         })
     }
+
+    // Tweak 0 of a unit.
+    fn first_tweak(&self, number: u64) -> u128
+        ensures { λ r. ⌜ r ≡ le-number (C·Cipher .forward (C·Cipher .key (now (self .entry) .key2)) (le-bytes 16 number)) ⌝ }
+    {
+        self.key2.encipher_number(number as u128)
+    }
+
+    fn seal_unit(&self, number: u64, unit: &mut [u8])
+        requires { ⌜ 16 ≤ length (now unit) ⌝ }
+        ensures { λ _. ⌜ now (unit .exit) ≡ encipherOf (C·Cipher .forward) (C·Cipher .key (now (self .entry) .key1) ++ C·Cipher .key (now (self .entry) .key2)) number (now (unit .entry)) ⌝ }
+    {
+        blocks::walk::<C, false>(&self.key1, self.first_tweak(number), unit);
+    }
+
+    fn open_unit(&self, number: u64, unit: &mut [u8])
+        requires { ⌜ 16 ≤ length (now unit) ⌝ }
+        ensures { λ _. ⌜ now (unit .exit) ≡ decipherOf (C·Cipher .forward) (C·Cipher .back) (C·Cipher .key (now (self .entry) .key1) ++ C·Cipher .key (now (self .entry) .key2)) number (now (unit .entry)) ⌝ }
+    {
+        blocks::walk::<C, true>(&self.key1, self.first_tweak(number), unit);
+    }
+
+    // Enciphers a unit in place; refuses one that is not 16 to 4,096 bytes long.
+    pub fn seal(&self, number: u64, unit: &mut [u8]) -> Result<(), Refusal>
+        ensures { λ r. ⌜ Makes (unit-demands (now (unit .entry))) (encipherOf (C·Cipher .forward) (C·Cipher .key (now (self .entry) .key1) ++ C·Cipher .key (now (self .entry) .key2)) number (now (unit .entry))) (now (unit .entry)) r (now (unit .exit)) ⌝ }
+    {
+        if unit.len() < 16 || unit.len() > 4096 {
+            return Err(Refusal::WrongLength);
+        }
+        self.seal_unit(number, unit);
+        Ok(())
+    }
+
+    // Deciphers a unit in place; refuses one that is not 16 to 4,096 bytes long.
+    pub fn open(&self, number: u64, unit: &mut [u8]) -> Result<(), Refusal>
+        ensures { λ r. ⌜ Makes (unit-demands (now (unit .entry))) (decipherOf (C·Cipher .forward) (C·Cipher .back) (C·Cipher .key (now (self .entry) .key1) ++ C·Cipher .key (now (self .entry) .key2)) number (now (unit .entry))) (now (unit .entry)) r (now (unit .exit)) ⌝ }
+    {
+        if unit.len() < 16 || unit.len() > 4096 {
+            return Err(Refusal::WrongLength);
+        }
+        self.open_unit(number, unit);
+        Ok(())
+    }
+
+    // Enciphers a sector in place.
+    pub fn seal_sector(&self, number: u64, sector: &mut [u8; 520])
+        ensures { λ _. ⌜ now (sector .exit) ≡ encipherOf (C·Cipher .forward) (C·Cipher .key (now (self .entry) .key1) ++ C·Cipher .key (now (self .entry) .key2)) number (now (sector .entry)) ⌝ }
+    {
+        self.seal_unit(number, sector);
+    }
+
+    // Deciphers a sector in place.
+    pub fn open_sector(&self, number: u64, sector: &mut [u8; 520])
+        ensures { λ _. ⌜ now (sector .exit) ≡ decipherOf (C·Cipher .forward) (C·Cipher .back) (C·Cipher .key (now (self .entry) .key1) ++ C·Cipher .key (now (self .entry) .key2)) number (now (sector .entry)) ⌝ }
+    {
+        self.open_unit(number, sector);
+    }
+
+    // The check of the key, by which a volume knows it again.
+    pub fn check(&self) -> [u8; 16]
+        ensures { λ r. ⌜ r ≡ checkOf (C·Cipher .forward) (C·Cipher .key (now (self .entry) .key1) ++ C·Cipher .key (now (self .entry) .key2)) ⌝ }
+    {
+        let mut zeros = [0u8; 16];
+        self.seal_unit(u64::MAX, &mut zeros);
+        zeros
+    }
+}
+
+// What both calls below begin with: the tests, lengths first; then the input goes into the output, to be changed there.
+fn copied<C: Cipher + Drop>(key: &[u8], input: &[u8], output: &mut [u8]) -> Result<UnitKey<C>, Refusal>
+    ensures { λ r. ⌜ Copied (now (key .entry)) (λ k. C·Cipher .key (k .key1) ++ C·Cipher .key (k .key2)) (now (input .entry)) (now (output .entry)) r (now (output .exit)) ⌝ }
+{
+    if input.len() < 16 || input.len() > 4096 || output.len() != input.len() {
+        return Err(Refusal::WrongLength);
+    }
+    let key = UnitKey::<C>::new(key)?;
+    output.copy_from_slice(input);
+    Ok(key)
+}
+
+// Enciphers the unit `input` into `output`. Refuses lengths first: a key not of 64 bytes, an input not of 16 to 4,096,
+// an output of another length; then a key whose halves are equal. Where it refuses, `output` is left alone.
+pub fn encipher<C: Cipher + Drop>(key: &[u8], number: u64, input: &[u8], output: &mut [u8]) -> Result<(), Refusal>
+    ensures { λ r. ⌜ Makes (call-demands (now (key .entry)) (now (input .entry)) (now (output .entry))) (encipherOf (C·Cipher .forward) (now (key .entry)) number (now (input .entry))) (now (output .entry)) r (now (output .exit)) ⌝ }
+{
+    let key = copied::<C>(key, input, output)?;
+    key.seal_unit(number, output);
+    Ok(())
+}
+
+// Deciphers the unit `input` into `output`, and refuses as `encipher` does.
+pub fn decipher<C: Cipher + Drop>(key: &[u8], number: u64, input: &[u8], output: &mut [u8]) -> Result<(), Refusal>
+    ensures { λ r. ⌜ Makes (call-demands (now (key .entry)) (now (input .entry)) (now (output .entry))) (decipherOf (C·Cipher .forward) (C·Cipher .back) (now (key .entry)) number (now (input .entry))) (now (output .entry)) r (now (output .exit)) ⌝ }
+{
+    let key = copied::<C>(key, input, output)?;
+    key.open_unit(number, output);
+    Ok(())
 }
