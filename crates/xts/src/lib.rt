@@ -145,3 +145,9 @@ pub fn decipher<C: Cipher + Drop>(key: &[u8], number: u64, input: &[u8], output:
     key.open_unit(number, output);
     Ok(())
 }
+
+// The theorem that deciphering undoes enciphering and enciphering deciphering, for every cipher, key, number and length.
+pub fn each_undoes_the_other<C: Cipher>()
+    ensures { λ _. ⌜ Each-undoes-the-other (C·Cipher .forward) (C·Cipher .back) ⌝ }
+{
+}
