@@ -25,7 +25,7 @@ pub record Undone-by (f g : List ℕ → List ℕ) : Type 0 where
   pub undone : (x : List ℕ) → Bytes 16 x → g (f x) ≡ x
 
 module _ (f g : List ℕ → List ℕ) (law : Undone-by f g) where
-  under-block : (t : ℕ) (x : List ℕ) → Bytes 16 x → Bytes 16 (under f t x)
+  pub under-block : (t : ℕ) (x : List ℕ) → Bytes 16 x → Bytes 16 (under f t x)
   under-block t x h =
       let m = le-bytes-bytes 16 t in
       xored-bytes 16 _ _ (law .kept _ (xored-bytes 16 _ _ h m)) m
@@ -38,11 +38,11 @@ module _ (f g : List ℕ → List ℕ) (law : Undone-by f g) where
       ap (λ (y : List ℕ). xored (g y) mask) (xored-twice (f (xored x mask)) mask (k .0 ∙ sym (length-le-bytes 16 t)))
       ∙ ap (λ (y : List ℕ). xored y mask) (law .undone _ masked) ∙ xored-twice x mask (h .0 ∙ sym (length-le-bytes 16 t))
 
-  front : (xs : List ℕ) → 16 ≤ length xs → All-bytes xs → Bytes 16 (take 16 xs)
+  pub front : (xs : List ℕ) → 16 ≤ length xs → All-bytes xs → Bytes 16 (take 16 xs)
   front xs lo a = part-bytes 0 16 (length xs) xs (omega arith) a
 
   -- the block that the tail is filled up to
-  filled-block : (xs q : List ℕ) → 16 ≤ length xs → length xs < 32 → All-bytes xs → Bytes 16 q → Bytes 16 (drop 16 xs ++ drop (length xs - 16) q)
+  pub filled-block : (xs q : List ℕ) → 16 ≤ length xs → length xs < 32 → All-bytes xs → Bytes 16 q → Bytes 16 (drop 16 xs ++ drop (length xs - 16) q)
   filled-block xs q lo hi a hq =
       let b : ℕ = length xs - 16 in
       let whole : b + (16 - b) ≡ 16 = omega arith in
@@ -104,7 +104,7 @@ module _ (f g : List ℕ → List ℕ) (law : Undone-by f g) where
         (eq-or-lt-of-le lo)
 
     -- the rest of a unit after its first block
-    rest-of : (n : ℕ) (xs : List ℕ) → suc n * 16 + 16 ≤ length xs → All-bytes xs → All-bytes (drop 16 xs)
+    pub rest-of : (n : ℕ) (xs : List ℕ) → suc n * 16 + 16 ≤ length xs → All-bytes xs → All-bytes (drop 16 xs)
     rest-of n xs lo a =
         let l : 16 + length (drop 16 xs) ≡ length xs = simp length-drop (omega arith) in
         rest-bytes 16 (length (drop 16 xs)) (length xs) xs l a

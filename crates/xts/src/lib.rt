@@ -6,7 +6,7 @@ ghost use lib.ListN.{length, take, drop};
 ghost use Rattle.bytes.specs.Little.{le-bytes, le-number};
 ghost use Rattle.xts.specs.Xts.{encipher as encipherOf, decipher as decipherOf, check as checkOf};
 ghost use Rattle.xts.specs.Calls.{unit-demands, call-demands, Makes, Taken, Copied};
-ghost use Rattle.xts.specs.Theorems.{Each-undoes-the-other};
+ghost use Rattle.xts.specs.Theorems.{Each-undoes-the-other, Enciphers-block-by-block, Deciphers-block-by-block};
 use cipher::Cipher;
 use refusal::Refusal;
 
@@ -149,5 +149,12 @@ pub fn decipher<C: Cipher + Drop>(key: &[u8], number: u64, input: &[u8], output:
 // The theorem that deciphering undoes enciphering and enciphering deciphering, for every cipher, key, number and length.
 pub fn each_undoes_the_other<C: Cipher>()
     ensures { λ _. ⌜ Each-undoes-the-other (C·Cipher .forward) (C·Cipher .back) ⌝ }
+{
+}
+
+// The theorem that units are enciphered and deciphered block by block as the standard words it, whatever the cipher.
+pub fn block_by_block<C: Cipher>()
+    ensures enciphering { λ _. ⌜ Enciphers-block-by-block (C·Cipher .forward) ⌝ }
+    ensures deciphering { λ _. ⌜ Deciphers-block-by-block (C·Cipher .forward) (C·Cipher .back) ⌝ }
 {
 }
