@@ -12,6 +12,12 @@ use refusal::Refusal;
 
 mod blocks;
 
+// Both halves of a key.
+const KEY_LENGTH: usize = 64;
+
+// A unit has 16 bytes to as many.
+const LONGEST_UNIT: usize = 4096;
+
 // A key made ready: its two halves expanded once. As in IEEE 1619, key1 enciphers blocks and key2 the tweak.
 #[derive(Drop)]
 pub struct UnitKey<C> {
@@ -34,7 +40,7 @@ impl<C: Cipher> UnitKey<C> {
     pub fn new(key: &[u8]) -> Result<UnitKey<C>, Refusal>
         ensures { λ r. ⌜ Taken (now (key .entry)) (λ k. C·Cipher .key (k .key1) ++ C·Cipher .key (k .key2)) r ⌝ }
     {
-        if key.len() != 64 {
+        if key.len() != KEY_LENGTH {
             return Err(Refusal::WrongLength);
         }
         let first = half(key, 0);
@@ -73,7 +79,7 @@ impl<C: Cipher> UnitKey<C> {
     pub fn seal(&self, number: u64, unit: &mut [u8]) -> Result<(), Refusal>
         ensures { λ r. ⌜ Makes (unit-demands (now (unit .entry))) (encipherOf (C·Cipher .forward) (C·Cipher .key (now (self .entry) .key1) ++ C·Cipher .key (now (self .entry) .key2)) number (now (unit .entry))) (now (unit .entry)) r (now (unit .exit)) ⌝ }
     {
-        if unit.len() < 16 || unit.len() > 4096 {
+        if unit.len() < 16 || unit.len() > LONGEST_UNIT {
             return Err(Refusal::WrongLength);
         }
         self.seal_unit(number, unit);
@@ -84,7 +90,7 @@ impl<C: Cipher> UnitKey<C> {
     pub fn open(&self, number: u64, unit: &mut [u8]) -> Result<(), Refusal>
         ensures { λ r. ⌜ Makes (unit-demands (now (unit .entry))) (decipherOf (C·Cipher .forward) (C·Cipher .back) (C·Cipher .key (now (self .entry) .key1) ++ C·Cipher .key (now (self .entry) .key2)) number (now (unit .entry))) (now (unit .entry)) r (now (unit .exit)) ⌝ }
     {
-        if unit.len() < 16 || unit.len() > 4096 {
+        if unit.len() < 16 || unit.len() > LONGEST_UNIT {
             return Err(Refusal::WrongLength);
         }
         self.open_unit(number, unit);
@@ -119,7 +125,7 @@ impl<C: Cipher> UnitKey<C> {
 fn copied<C: Cipher + Drop>(key: &[u8], input: &[u8], output: &mut [u8]) -> Result<UnitKey<C>, Refusal>
     ensures { λ r. ⌜ Copied (now (key .entry)) (λ k. C·Cipher .key (k .key1) ++ C·Cipher .key (k .key2)) (now (input .entry)) (now (output .entry)) r (now (output .exit)) ⌝ }
 {
-    if input.len() < 16 || input.len() > 4096 || output.len() != input.len() {
+    if input.len() < 16 || input.len() > LONGEST_UNIT || output.len() != input.len() {
         return Err(Refusal::WrongLength);
     }
     let key = UnitKey::<C>::new(key)?;

@@ -1,0 +1,4 @@
+pub mod Tests
+pub mod Linear
+pub mod Inverses
+pub mod Places

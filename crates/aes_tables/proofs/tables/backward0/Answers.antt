@@ -1,0 +1,13 @@
+use Prim.Native.Nat.{ℕ, _<_}
+use borrow.Author.Needs.{needs}
+use Rattle.bytes.specs.Little.{le-number}
+use Rattle.aes_tables.specs.Field.{sub-back, inverse, mul}
+use Rattle.aes_tables.specs.Columns.{mix-back, spread}
+use Rattle.aes_tables.proofs.Tests.{table-entry}
+use Rattle.aes_tables.proofs.tables.backward0.Needs as need
+
+pub returns : need.returns
+unfolding sub-back inverse mul
+returns c =
+    let h : c .args .a < 256 = search needs in
+    table-entry (λ (k : ℕ). le-number (spread mix-back 0 (sub-back k))) (c .args .a) h
