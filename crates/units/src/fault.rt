@@ -4,7 +4,6 @@ ghost use Rattle.std.specs.declared.option.Option.the-variants.{Some};
 ghost use Rattle.units.specs.declared.fault.Expected.the-variants.{Memory as noMemory};
 ghost use Rattle.units.specs.Texts.{wanted};
 use std::alloc::AllocError;
-use std::alloc::Refused;
 use std::fmt;
 use std::io;
 
@@ -50,14 +49,6 @@ pub impl From<AllocError> for Expected as ExpectedFromAlloc {
     ghost converts = { λ _ r. r ≡ noMemory };
 
     fn from(_e: AllocError) -> Expected {
-        Expected::Memory
-    }
-}
-
-pub impl<T: Drop> From<Refused<T>> for Expected as ExpectedFromRefused {
-    ghost converts = { λ _ r. r ≡ noMemory };
-
-    fn from(_e: Refused<T>) -> Expected {
         Expected::Memory
     }
 }

@@ -1,12 +1,13 @@
 // Reads a line: its words, and the task that they say.
 ghost use mathlib.Core.Path.{_≡_};
+ghost use Prim.Native.Nat.{_≤_};
 ghost use Rattle.std.specs.Of.Vec.{vec-items};
 ghost use Rattle.std.specs.Results.{Cases};
+ghost use Rattle.std.specs.Vec.{made};
 ghost use Rattle.units.specs.declared.fault.Expected.the-variants.{Number as noNumber};
-ghost use Rattle.units.specs.Words.{word-at, command-word, cipher-word, Names, InHex, InDecimal, Missed};
+ghost use Rattle.units.specs.Words.{Split, word-at, command-word, cipher-word, direction-of, input-place, Names, InHex, InDecimal, Missed};
+ghost use Rattle.units.specs.Lines.{Extends, Unnumbered, Expects, Unexpected, Says, Wrong};
 use crate::fault::Expected;
-use crate::fault::ExpectedFromAlloc;
-use crate::fault::ExpectedFromRefused;
 use crate::task::CipherName;
 use crate::task::Direction;
 use crate::task::Extent;
@@ -29,11 +30,13 @@ enum Command {
 }
 
 // The words of a line; one that begins with `#` begins a comment.
-pub fn words<'a>(heap: Global, line: &'a str) -> Result<Vec<&'a str>, AllocError> {
+pub fn words<'a>(heap: Global, line: &'a str) -> Result<Vec<&'a str>, AllocError>
+    ensures { λ r. ⌜ made r (λ v. Split (now (line .entry)) (vec-items v)) ⌝ }
+{
     let mut words = Vec::new(heap);
     for word in line.split_whitespace() {
         if word.starts_with('#') {
-            break;
+            return Ok(words);
         }
         words.push(word)?;
     }
@@ -95,27 +98,70 @@ fn number_of(word: &str) -> Result<u64, Expected>
     }
 }
 
+impl Command {
+    fn direction(self) -> Direction
+        ensures { λ r. ⌜ r ≡ direction-of self ⌝ }
+    {
+        match self {
+            Command::Block(direction) => direction,
+            Command::Unit(direction) => direction,
+        }
+    }
+
+    // The place of IN, which comes after NUMBER where there is one.
+    fn input_place(self) -> usize
+        ensures { λ r. ⌜ r ≡ input-place self ⌝ }
+    {
+        match self {
+            Command::Block(_) => 3,
+            Command::Unit(_) => 4,
+        }
+    }
+
+    fn extent(self, words: &[&str]) -> Result<Extent, Expected>
+        ensures { λ r. ⌜ Cases r (λ x. Extends self (now (words .entry)) x) (λ e. Unnumbered self (now (words .entry)) e) ⌝ }
+    {
+        match self {
+            Command::Block(_) => Ok(Extent::Block),
+            Command::Unit(_) => Ok(Extent::Unit(number_of(word_at(words, 3))?)),
+        }
+    }
+}
+
+// What the line expects at a place, its last.
+fn expected_at(heap: Global, words: &[&str], at: usize) -> Result<Option<Vec<u8>>, Expected>
+    requires { ⌜ at ≤ 5 ⌝ }
+    ensures { λ r. ⌜ Cases r (λ o. Expects (now (words .entry)) at o) (λ e. Unexpected (now (words .entry)) at e) ⌝ }
+{
+    if words.len() <= at {
+        return Ok(None);
+    }
+    let bytes = bytes_of(heap, word_at(words, at), Expected::Result)?;
+    if words.len() > at + 1 {
+        return Err(Expected::End);
+    }
+    Ok(Some(bytes))
+}
+
 impl Line {
     // The task that the words say, and what they expect of it.
-    pub fn read(heap: Global, words: &[&str]) -> Result<Line, Expected> {
-        let command = command_of(word_at(words, 0)).ok_or(Expected::Command)?;
-        let cipher = cipher_of(word_at(words, 1)).ok_or(Expected::Cipher)?;
+    pub fn read(heap: Global, words: &[&str]) -> Result<Line, Expected>
+        ensures { λ r. ⌜ Cases r (λ l. Says (now (words .entry)) l) (λ e. Wrong (now (words .entry)) e) ⌝ }
+    {
+        let Some(command) = command_of(word_at(words, 0)) else {
+            return Err(Expected::Command);
+        };
+        let Some(cipher) = cipher_of(word_at(words, 1)) else {
+            return Err(Expected::Cipher);
+        };
         let key = bytes_of(heap, word_at(words, 2), Expected::Key)?;
-        let (extent, direction, at) = match command {
-            Command::Block(direction) => (Extent::Block, direction, 3),
-            Command::Unit(direction) => (Extent::Unit(number_of(word_at(words, 3))?), direction, 4),
-        };
-        let input = bytes_of(heap, word_at(words, at), Expected::Input)?;
-        let expected = match words.get(at + 1) {
-            Some(word) => Some(bytes_of(heap, word, Expected::Result)?),
-            None => None,
-        };
-        if words.len() > at + 2 {
-            return Err(Expected::End);
-        }
+        let extent = command.extent(words)?;
+        let place = command.input_place();
+        let input = bytes_of(heap, word_at(words, place), Expected::Input)?;
+        let expected = expected_at(heap, words, place + 1)?;
         let task = Task {
             extent,
-            direction,
+            direction: command.direction(),
             cipher,
             key,
             input,

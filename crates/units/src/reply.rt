@@ -3,7 +3,7 @@ ghost use mathlib.Core.Path.{_≡_};
 ghost use Rattle.std.specs.declared.option.Option.the-variants.{Some};
 ghost use Rattle.std.specs.Of.String.{string-bytes};
 ghost use Rattle.std.specs.Vec.{made};
-ghost use Rattle.units.specs.Replies.{outcome-text, verdict-word, reply-text, Judged, Counted};
+ghost use Rattle.units.specs.Replies.{outcome-text, verdict-word, reply-text, Judged, Matched, Counted};
 use crate::task::Outcome;
 use std::alloc::AllocError;
 use std::alloc::Global;
@@ -41,7 +41,11 @@ fn bare(heap: Global, outcome: &Outcome) -> Result<String, AllocError>
 }
 
 // The outcome, followed by the verdict where there is one.
-pub fn reply(heap: Global, outcome: &Outcome, verdict: Option<Verdict>) -> Result<String, AllocError>
+pub fn reply(
+    heap: Global,
+    outcome: &Outcome,
+    verdict: Option<Verdict>,
+) -> Result<String, AllocError>
     ensures { λ r. ⌜ made r (λ s. string-bytes s ≡ reply-text (now (outcome .entry)) verdict) ⌝ }
 {
     let text = bare(heap, outcome)?;
@@ -52,7 +56,7 @@ pub fn reply(heap: Global, outcome: &Outcome, verdict: Option<Verdict>) -> Resul
 }
 
 impl Verdict {
-    pub fn on(outcome: &Outcome, expected: &[u8]) -> Verdict
+    fn on(outcome: &Outcome, expected: &[u8]) -> Verdict
         ensures { λ r. ⌜ Judged (now (expected .entry)) (now (outcome .entry)) r ⌝ }
     {
         match outcome {
@@ -66,6 +70,16 @@ impl Verdict {
             Outcome::Refused(_) => Verdict::Differs,
         }
     }
+
+    // The verdict on an outcome of which something was expected.
+    pub fn of(outcome: &Outcome, expected: &Option<Vec<u8>>) -> Option<Verdict>
+        ensures { λ r. ⌜ Matched (now (expected .entry)) (now (outcome .entry)) r ⌝ }
+    {
+        match expected {
+            Some(bytes) => Some(Verdict::on(outcome, bytes)),
+            None => None,
+        }
+    }
 }
 
 // How many outcomes agreed with what was expected, and how many did not.
@@ -76,12 +90,13 @@ pub struct Tally {
 }
 
 impl Tally {
-    pub fn count(&mut self, verdict: Verdict)
+    pub fn count(&mut self, verdict: Option<Verdict>)
         ensures { λ _. ⌜ Counted verdict (now (self .entry)) (now (self .exit)) ⌝ }
     {
         match verdict {
-            Verdict::Agrees => self.agreed = self.agreed.saturating_add(1),
-            Verdict::Differs => self.differed = self.differed.saturating_add(1),
+            Some(Verdict::Agrees) => self.agreed = self.agreed.saturating_add(1),
+            Some(Verdict::Differs) => self.differed = self.differed.saturating_add(1),
+            None => {}
         }
     }
 }

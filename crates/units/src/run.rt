@@ -1,5 +1,4 @@
 // Runs a task.
-ghost use mathlib.Core.Path.{_≡_};
 ghost use Rattle.std.specs.Vec.{made};
 ghost use Rattle.xts.specs.Calls.{call-demands, Makes};
 ghost use Rattle.units.specs.Runs.{Answered, block-demands, block-map, unit-map, Ran, Came};
@@ -17,7 +16,12 @@ use speck::SpeckCipher;
 use std::alloc::AllocError;
 use std::alloc::Global;
 
-fn block<C: Cipher + Drop>(heap: Global, direction: Direction, key: &[u8], input: &[u8]) -> Result<Outcome, AllocError>
+fn block<C: Cipher + Drop>(
+    heap: Global,
+    direction: Direction,
+    key: &[u8],
+    input: &[u8],
+) -> Result<Outcome, AllocError>
     ensures { λ r. ⌜ made r (λ o. Answered (block-demands (now (key .entry)) (now (input .entry))) (block-map (C·Cipher .forward) (C·Cipher .back) direction (now (key .entry)) (now (input .entry))) o) ⌝ }
 {
     if key.len() != 32 {
@@ -39,7 +43,13 @@ fn block<C: Cipher + Drop>(heap: Global, direction: Direction, key: &[u8], input
 }
 
 // The two ways of XTS.
-fn pass<C: Cipher + Drop>(direction: Direction, key: &[u8], number: u64, input: &[u8], output: &mut [u8]) -> Result<(), Refusal>
+fn pass<C: Cipher + Drop>(
+    direction: Direction,
+    key: &[u8],
+    number: u64,
+    input: &[u8],
+    output: &mut [u8],
+) -> Result<(), Refusal>
     ensures { λ r. ⌜ Makes (call-demands (now (key .entry)) (now (input .entry)) (now (output .entry))) (unit-map (C·Cipher .forward) (C·Cipher .back) direction (now (key .entry)) number (now (input .entry))) (now (output .entry)) r (now (output .exit)) ⌝ }
 {
     match direction {
@@ -49,7 +59,13 @@ fn pass<C: Cipher + Drop>(direction: Direction, key: &[u8], number: u64, input: 
 }
 
 // A unit into an output of its own length.
-fn unit<C: Cipher + Drop>(heap: Global, direction: Direction, key: &[u8], number: u64, input: &[u8]) -> Result<Outcome, AllocError>
+fn unit<C: Cipher + Drop>(
+    heap: Global,
+    direction: Direction,
+    key: &[u8],
+    number: u64,
+    input: &[u8],
+) -> Result<Outcome, AllocError>
     ensures { λ r. ⌜ made r (λ o. Answered (call-demands (now (key .entry)) (now (input .entry)) (now (input .entry))) (unit-map (C·Cipher .forward) (C·Cipher .back) direction (now (key .entry)) number (now (input .entry))) o) ⌝ }
 {
     let mut output = Vec::from_slice(heap, input)?;

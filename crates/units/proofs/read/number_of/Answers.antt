@@ -1,3 +1,4 @@
+-- A word with no plus before it is read whole.
 use mathlib.Core.Path.{_≡_, sym, subst}
 use Prim.Native.Nat.{ℕ, _<_, _^_}
 use lib.Dec.{lit<}

@@ -1,3 +1,4 @@
+-- A slice read at a place is the word there, and past the end there is none.
 use mathlib.Core.Path.{refl}
 use Rattle.units.proofs.Places.{word-is, word-none}
 use Rattle.units.proofs.read.word_at.Needs as need

@@ -1,3 +1,4 @@
+-- The text at a verdict.
 use borrow.Author.Needs.{needs}
 use Rattle.units.proofs.reply.reply.Needs as need
 

@@ -1,3 +1,4 @@
+-- `==` on the slices decides whether the bytes are those expected.
 use mathlib.Core.Path.{sym, _∙_}
 use Rattle.std.proofs.shelf.Equals.{matches-decides}
 use Rattle.std.proofs.shelf.Ways.{not-from-decides}
