@@ -1,0 +1,4 @@
+pub mod Refusals
+pub mod Told
+pub mod Puts
+pub mod Flatness

@@ -1,0 +1,28 @@
+use native.Mathlib.Omega.{arith}
+use borrow.Author.Needs.{needs}
+use Rattle.journal.proofs.Commits.{unseen-down, down-after, stage-two}
+use Rattle.journal.proofs.Journal.stage_two.Needs as need
+
+pub write-unseen-requires : need.write-unseen-requires
+write-unseen-requires g c κs =
+    let r = c .pre .down .room in record { still = unseen-down _ _ _ (c .pre .down) (omega arith) (omega arith); long = c .pre .x-long }
+
+pub write-unseen-requires-2 : need.write-unseen-requires-2
+write-unseen-requires-2 g c κs =
+    let r = c .pre .down .room in
+    let d = down-after _ _ _ _ _ (c .pre .down) (omega arith) (c .in-Continue-write-unseen .ensures tt .1) in
+    record { still = unseen-down _ _ _ d (omega arith) (omega arith); long = c .pre .y-long }
+
+pub write-unseen-requires-3 : need.write-unseen-requires-3
+write-unseen-requires-3 g c κs =
+    let r = c .pre .down .room in
+    let d = down-after _ _ _ _ _ (c .pre .down) (omega arith) (c .in-Continue-write-unseen .ensures tt .1) in
+    let e = down-after _ _ _ _ _ d (omega arith) (c .in-Continue-write-unseen-2 .ensures tt .1) in
+    record { still = unseen-down _ _ _ e (omega arith) (omega arith); long = search needs }
+
+pub returns : need.returns
+returns g c =
+    let w = c .in-Continue-write-unseen .ensures tt in
+    let z = c .in-Continue-write-unseen-2 .ensures tt in
+    stage-two _ _ _ _ (c .args .total) (c .args .a) (c .args .b) (c .args .x .now) (c .args .y .now) (c .slip-for .result) (c .write-unseen-3 .result) (c .slip-for .ensures)
+    (c .pre .down) (c .pre .first) (c .pre .second) (c .pre .apart) (omega arith) (omega arith) (w .0) (w .1) (w .2) (z .1) (z .2) (c .write-unseen-3 .ensures)
