@@ -56,7 +56,11 @@ impl FlatCard {
         ensures { λ r. ⌜ r ≡ count-in (vec-items (now (self .entry) .bytes)) ⌝ }
     {
         let fit = self.bytes.len() / 520;
-        if fit < MOST_SECTORS { fit as u32 } else { MOST_SECTORS as u32 }
+        if fit < MOST_SECTORS {
+            fit as u32
+        } else {
+            MOST_SECTORS as u32
+        }
     }
 
     // Replaces a sector that is there.

@@ -62,8 +62,11 @@ lost-write s t u v kind k b hb a e st sm kp lf =
     let left : Left kind (s .below) (v .below) k b = subst (λ (m : Meaning). Left kind m (v .below) k b) p lf in
     let stepped : Stepped (s .script) (s .powered) (u .script) (u .powered) (Some kind) = subst (λ (z : State). Stepped (z .script) (z .powered) (u .script) (u .powered) (Some kind)) e st in
     let f = step-fires (s .script) (s .powered) (u .script) (u .powered) kind stepped in
-    let gone : v .powered ≡ false = kp .0 ∙ f .1 in
-    ((a .0,
-      subst (λ (q : Bool). Torn (cut-of q (s .below)) (cut-of (v .powered) (v .below)) k) (sym (a .1))
-      (subst (λ (q : Bool). Torn (cut-of true (s .below)) (cut-of q (v .below)) k) (sym gone) (torn-left kind (s .below) (v .below) k b hb left))),
-     inr (inr (inl (a, ((f .0, gone, kp .1 ∙ f .2), step-loses (s .script) (s .powered) (u .script) (u .powered) kind (s .below) (v .below) k b stepped left)))))
+    let gone : v .powered ≡ false = kp .0 ∙ f .1 in (
+      (
+        a .0,
+        subst (λ (q : Bool). Torn (cut-of q (s .below)) (cut-of (v .powered) (v .below)) k) (sym (a .1))
+            (subst (λ (q : Bool). Torn (cut-of true (s .below)) (cut-of q (v .below)) k) (sym gone) (torn-left kind (s .below) (v .below) k b hb left)),
+      ),
+      inr (inr (inl (a, ((f .0, gone, kp .1 ∙ f .2), step-loses (s .script) (s .powered) (u .script) (u .powered) kind (s .below) (v .below) k b stepped left)))),
+    )

@@ -30,7 +30,13 @@ impl Tally {
 }
 
 // One cut in the put, then power-up, which settles.
-fn cut_once(rt: &LibcRuntime, put: Put, at: u32, kind: u8, tally: &mut Tally) -> Result<(), AnyError> {
+fn cut_once(
+    rt: &LibcRuntime,
+    put: Put,
+    at: u32,
+    kind: u8,
+    tally: &mut Tally,
+) -> Result<(), AnyError> {
     let mut store = trial::cut_put(rt.alloc(), put, at, kind)?;
     trial::power_up(&mut store)?;
     let targets = trial::targets_of(&mut store, put)?;
@@ -41,7 +47,14 @@ fn cut_once(rt: &LibcRuntime, put: Put, at: u32, kind: u8, tally: &mut Tally) ->
 }
 
 // The same, with a second cut in an access of the settling that the next put begins with.
-fn cut_twice(rt: &LibcRuntime, put: Put, at: u32, kind: u8, again: u32, tally: &mut Tally) -> Result<(), AnyError> {
+fn cut_twice(
+    rt: &LibcRuntime,
+    put: Put,
+    at: u32,
+    kind: u8,
+    again: u32,
+    tally: &mut Tally,
+) -> Result<(), AnyError> {
     let mut store = trial::cut_put(rt.alloc(), put, at, kind)?;
     trial::cut_settling(&mut store, again, kind)?;
     trial::power_up(&mut store)?;
@@ -49,7 +62,10 @@ fn cut_twice(rt: &LibcRuntime, put: Put, at: u32, kind: u8, again: u32, tally: &
     tally.count(targets.together());
     let access = put.access(at);
     let number = again.saturating_add(1);
-    println!(rt, "{put}, kind {kind}, cut in {access}, and in access {number} of the settling: {targets}")?;
+    println!(
+        rt,
+        "{put}, kind {kind}, cut in {access}, and in access {number} of the settling: {targets}"
+    )?;
     Ok(())
 }
 
@@ -70,7 +86,11 @@ fn cut_all(rt: &LibcRuntime, put: Put, kind: u8, tally: &mut Tally) -> Result<()
 }
 
 fn run(rt: &LibcRuntime) -> Result<(), AnyError> {
-    let mut tally = Tally { old: 0, new: 0, mixed: 0 };
+    let mut tally = Tally {
+        old: 0,
+        new: 0,
+        mixed: 0,
+    };
     for kind in 0..3u8 {
         cut_all(rt, Put::One, kind, &mut tally)?;
     }
@@ -81,7 +101,10 @@ fn run(rt: &LibcRuntime) -> Result<(), AnyError> {
     let new = tally.new;
     let mixed = tally.mixed;
     let cases = old.saturating_add(new).saturating_add(mixed);
-    println!(rt, "{cases} cases: {old} all old, {new} all new, {mixed} mixed")?;
+    println!(
+        rt,
+        "{cases} cases: {old} all old, {new} all new, {mixed} mixed"
+    )?;
     if mixed > 0 {
         return Err("a case was mixed".into());
     }

@@ -75,7 +75,7 @@ pub impl fmt::Display for Access as AccessDisplay {
 }
 
 impl Put {
-    pub fn accesses(self) -> u32 {
+    pub(crate) fn accesses(self) -> u32 {
         match self {
             Put::One => 6,
             Put::Two => 8,
@@ -83,7 +83,7 @@ impl Put {
     }
 
     // Access `at` of the put, counted from 0.
-    pub fn access(self, at: u32) -> Access {
+    pub(crate) fn access(self, at: u32) -> Access {
         match (self, at) {
             (_, 0) => Access::LooksAtFlag,
             (_, 1) => Access::FirstSpare,
@@ -102,7 +102,12 @@ impl Put {
     fn make(self, store: &mut Store) -> Result<(), Refusal> {
         match self {
             Put::One => store.put_one(FIRST_TARGET, &[FIRST_BYTE; 520]),
-            Put::Two => store.put_two(FIRST_TARGET, &[FIRST_BYTE; 520], SECOND_TARGET, &[SECOND_BYTE; 520]),
+            Put::Two => store.put_two(
+                FIRST_TARGET,
+                &[FIRST_BYTE; 520],
+                SECOND_TARGET,
+                &[SECOND_BYTE; 520],
+            ),
         }
     }
 
@@ -149,7 +154,7 @@ pub struct Targets {
 }
 
 impl Targets {
-    pub fn together(self) -> Outcome {
+    pub(crate) fn together(self) -> Outcome {
         match (self.first, self.second.unwrap_or(self.first)) {
             (Shown::Old, Shown::Old) => Outcome::AllOld,
             (Shown::New, Shown::New) => Outcome::AllNew,
@@ -177,7 +182,7 @@ fn told(reply: Result<(), Refusal>) -> Result<(), AnyError> {
 }
 
 // A put on a fresh store that serves `at` accesses and loses power in the next.
-pub fn cut_put(heap: Global, put: Put, at: u32, kind: u8) -> Result<Store, AllocError> {
+pub(crate) fn cut_put(heap: Global, put: Put, at: u32, kind: u8) -> Result<Store, AllocError> {
     let bytes = vec![in heap; 0u8; SECTORS * 520]?;
     let mut store = Journal::new(Cut::new(FlatCard::new(bytes)));
     store.below().set_script(Script { left: at, kind });
@@ -185,12 +190,12 @@ pub fn cut_put(heap: Global, put: Put, at: u32, kind: u8) -> Result<Store, Alloc
     Ok(store)
 }
 
-pub fn power_up(store: &mut Store) -> Result<(), AnyError> {
+pub(crate) fn power_up(store: &mut Store) -> Result<(), AnyError> {
     told(store.power_up())
 }
 
 // Powers the card alone, so that nothing is settled, and cuts access `at` of the settling that the next put begins with.
-pub fn cut_settling(store: &mut Store, at: u32, kind: u8) -> Result<(), AnyError> {
+pub(crate) fn cut_settling(store: &mut Store, at: u32, kind: u8) -> Result<(), AnyError> {
     told(store.below().power_up())?;
     store.below().set_script(Script { left: at, kind });
     let _ = store.put_one(0, &[9u8; 520]);
@@ -198,11 +203,15 @@ pub fn cut_settling(store: &mut Store, at: u32, kind: u8) -> Result<(), AnyError
 }
 
 // How many accesses the settling will make: one where it finds the flag lowered.
-pub fn settling(store: &mut Store, put: Put) -> Result<u32, AnyError> {
+pub(crate) fn settling(store: &mut Store, put: Put) -> Result<u32, AnyError> {
     told(store.below().power_up())?;
     let mut flag = [0u8; 520];
     told(store.below().read(FLAG, &mut flag))?;
-    if all_are(&flag, 0xa5) { Ok(put.settling()) } else { Ok(1) }
+    if all_are(&flag, 0xa5) {
+        Ok(put.settling())
+    } else {
+        Ok(1)
+    }
 }
 
 fn all_are(bytes: &[u8], value: u8) -> bool {
@@ -226,7 +235,7 @@ fn shows(store: &mut Store, n: u32, new: u8) -> Result<Shown, AnyError> {
     }
 }
 
-pub fn targets_of(store: &mut Store, put: Put) -> Result<Targets, AnyError> {
+pub(crate) fn targets_of(store: &mut Store, put: Put) -> Result<Targets, AnyError> {
     let first = shows(store, FIRST_TARGET, FIRST_BYTE)?;
     let second = match put {
         Put::One => None,

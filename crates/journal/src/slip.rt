@@ -12,7 +12,7 @@ pub enum Pending {
 }
 
 // Whether each byte is v.
-pub fn all_are(s: &[u8], v: u8) -> bool
+pub(crate) fn all_are(s: &[u8], v: u8) -> bool
     ensures { λ r. ⌜ r ≡ all-are v (now (s .entry)) ⌝ }
 {
     for x in s {
@@ -32,7 +32,7 @@ fn field_at(s: &[u8; 520], k: usize) -> u32
 }
 
 // What a slip says, where targets are below limit. What is no slip says nothing.
-pub fn slip_of(limit: u32, s: &[u8; 520]) -> Pending
+pub(crate) fn slip_of(limit: u32, s: &[u8; 520]) -> Pending
     ensures { λ r. ⌜ r ≡ slip-of limit (now (s .entry)) ⌝ }
 {
     if !all_are(&s[0..508], 0) {
@@ -61,7 +61,7 @@ pub fn slip_of(limit: u32, s: &[u8; 520]) -> Pending
 }
 
 // The slip of kind 1 or 2 over its targets; one of kind 1 has 0 for the second.
-pub fn slip_for(kind: u8, a: u32, b: u32) -> [u8; 520]
+pub(crate) fn slip_for(kind: u8, a: u32, b: u32) -> [u8; 520]
     ensures { λ r. ⌜ r ≡ slip-bytes kind a b ⌝ }
 {
     let mut s = [0u8; 520];

@@ -48,8 +48,8 @@ undone k p hk f =
     let n : ℕ = bitXor s k in
     let ey : rotr 3 (bitXor (bitXor (rotl 3 (p .y)) n) n) ≡ p .y = ap (rotr 3) (xor-twice (rotl 3 (p .y)) n) ∙ turned-on 3 61 refl (p .y) (f .1) in
     let ex : rotl 8 ((bitXor n k + (2 ^ 64 - p .y)) % 2 ^ 64) ≡ p .x =
-        ap (λ (a : ℕ). rotl 8 ((a + (2 ^ 64 - p .y)) % 2 ^ 64)) (xor-twice s k)
-        ∙ ap (rotl 8) (minus-plus (rotr 8 (p .x)) (p .y) (rotr8-lt (p .x) (f .0)) (f .1)) ∙ turned-on 56 8 refl (p .x) (f .0) in
+    ap (λ (a : ℕ). rotl 8 ((a + (2 ^ 64 - p .y)) % 2 ^ 64)) (xor-twice s k)
+    ∙ ap (rotl 8) (minus-plus (rotr 8 (p .x)) (p .y) (rotr8-lt (p .x) (f .0)) (f .1)) ∙ turned-on 56 8 refl (p .x) (f .0) in
     ap (λ (m : ℕ). pair (rotl 8 ((bitXor n k + (2 ^ 64 - m)) % 2 ^ 64)) m) ey ∙ ap (λ (m : ℕ). pair m (p .y)) ex
 
 redone : (k : ℕ) (p : Pair) → k < 2 ^ 64 → Fit p → round k (round-back k p) ≡ p
@@ -63,8 +63,8 @@ redone k p hk f =
     let s : ℕ = (w + (2 ^ 64 - n)) % 2 ^ 64 in
     let hs : s < 2 ^ 64 = omega arith in
     let ex : bitXor ((rotr 8 (rotl 8 s) + n) % 2 ^ 64) k ≡ p .x =
-        ap (λ (a : ℕ). bitXor ((a + n) % 2 ^ 64) k) (turned-on 8 56 refl s hs)
-        ∙ ap (λ (a : ℕ). bitXor a k) (plus-minus w n hw hn) ∙ xor-twice (p .x) k in
+    ap (λ (a : ℕ). bitXor ((a + n) % 2 ^ 64) k) (turned-on 8 56 refl s hs)
+    ∙ ap (λ (a : ℕ). bitXor a k) (plus-minus w n hw hn) ∙ xor-twice (p .x) k in
     let ey : bitXor (rotl 3 n) (p .x) ≡ p .y = ap (λ (a : ℕ). bitXor a (p .x)) (turned-on 61 3 refl z hz) ∙ xor-twice (p .y) (p .x) in
     ap (λ (m : ℕ). pair m (bitXor (rotl 3 n) m)) ex ∙ ap (pair (p .x)) ey
 

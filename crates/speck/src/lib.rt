@@ -138,7 +138,10 @@ pub impl Cipher for Speck as SpeckCipher {
 
     fn new(bytes: &[u8; 32]) -> Speck {
         let keys = round_keys(bytes);
-        Speck { bytes: *bytes, keys }
+        Speck {
+            bytes: *bytes,
+            keys,
+        }
     }
 
     fn encipher_number(&self, block: u128) -> u128 {

@@ -100,15 +100,15 @@ module _ (f g : List ℕ → List ℕ) (law : Undone-by f g) (back : Bool) where
     blockwise = record {
       whole = λ j h. block-through t (m - 1) j xs (omega arith) a (omega arith);
       even = λ e.
-        let whole : length end ≡ 16 = end-long ∙ ap (λ (n : ℕ). 16 + n) e in
-        let x : Bytes 16 end = subst (λ (n : ℕ). Bytes n end) whole end-bytes in
-        ap (take 16) (ended ∙ walked-whole f back (tweak t (m - 1)) end whole)
-        ∙ take-all 16 (under f (tweak t (m - 1)) end) (subst (λ (n : ℕ). n ≤ 16) (sym (under-block f g law (tweak t (m - 1)) end x .0)) (omega arith))
-        ∙ ap (under f (tweak t (m - 1))) (sym (take-all 16 end (subst (λ (n : ℕ). n ≤ 16) (sym whole) (omega arith))));
+          let whole : length end ≡ 16 = end-long ∙ ap (λ (n : ℕ). 16 + n) e in
+          let x : Bytes 16 end = subst (λ (n : ℕ). Bytes n end) whole end-bytes in
+          ap (take 16) (ended ∙ walked-whole f back (tweak t (m - 1)) end whole)
+          ∙ take-all 16 (under f (tweak t (m - 1)) end) (subst (λ (n : ℕ). n ≤ 16) (sym (under-block f g law (tweak t (m - 1)) end x .0)) (omega arith))
+          ∙ ap (under f (tweak t (m - 1))) (sym (take-all 16 end (subst (λ (n : ℕ). n ≤ 16) (sym whole) (omega arith))));
       tail = λ h.
-        sym (past (walked f back t (m - 1) xs)) ∙ ap (drop 16) (ended-tail h) ∙ stolen-tail (tweak t one) (tweak t other) end lo hi end-bytes
-        ∙ ap (λ (n : ℕ). take n (under f (tweak t one) (take 16 end))) size;
+          sym (past (walked f back t (m - 1) xs)) ∙ ap (drop 16) (ended-tail h) ∙ stolen-tail (tweak t one) (tweak t other) end lo hi end-bytes
+          ∙ ap (λ (n : ℕ). take n (under f (tweak t one) (take 16 end))) size;
       head = λ h.
-        ap (take 16) (ended-tail h) ∙ stolen-head (tweak t one) (tweak t other) end lo hi end-bytes
-        ∙ ap₂ (λ (zs : List ℕ) (n : ℕ). under f (tweak t other) (zs ++ drop n (under f (tweak t one) (take 16 end)))) (past xs) size;
+          ap (take 16) (ended-tail h) ∙ stolen-head (tweak t one) (tweak t other) end lo hi end-bytes
+          ∙ ap₂ (λ (zs : List ℕ) (n : ℕ). under f (tweak t other) (zs ++ drop n (under f (tweak t one) (take 16 end)))) (past xs) size;
     }

@@ -88,7 +88,7 @@ module _ (f g : List ℕ → List ℕ) (law : Undone-by f g) where
     last-bytes t xs lo hi a =
         ⊎-elim
         (λ (e : 16 ≡ length xs). subst (λ (ys : List ℕ). Bytes (length xs) ys) (sym (walked-whole f back t xs (sym e)))
-          (subst (λ (n : ℕ). Bytes n (under f t xs)) e (under-block t xs (subst (λ (n : ℕ). Bytes n xs) (sym e) a))))
+        (subst (λ (n : ℕ). Bytes n (under f t xs)) e (under-block t xs (subst (λ (n : ℕ). Bytes n xs) (sym e) a))))
         (λ (h : 16 < length xs). subst (λ (ys : List ℕ). Bytes (length xs) ys) (sym (walked-tail f back t xs h)) (ending-bytes back t xs lo hi a))
         (eq-or-lt-of-le lo)
 
@@ -96,11 +96,11 @@ module _ (f g : List ℕ → List ℕ) (law : Undone-by f g) where
     last-undone t xs lo hi a =
         ⊎-elim
         (λ (e : 16 ≡ length xs).
-          let x : Bytes 16 xs = subst (λ (n : ℕ). Bytes n xs) (sym e) a in
-          ap (walked g (not back) t 0) (walked-whole f back t xs (sym e)) ∙ walked-whole g (not back) t (under f t xs) (under-block t xs x .0) ∙ under-undone t xs x)
+        let x : Bytes 16 xs = subst (λ (n : ℕ). Bytes n xs) (sym e) a in
+        ap (walked g (not back) t 0) (walked-whole f back t xs (sym e)) ∙ walked-whole g (not back) t (under f t xs) (under-block t xs x .0) ∙ under-undone t xs x)
         (λ (h : 16 < length xs).
-          let l : 16 < length (ending f back t xs) = subst (λ (n : ℕ). 16 < n) (sym (ending-bytes back t xs lo hi a .0)) h in
-          ap (walked g (not back) t 0) (walked-tail f back t xs h) ∙ walked-tail g (not back) t (ending f back t xs) l ∙ ending-undone back t xs lo hi a)
+        let l : 16 < length (ending f back t xs) = subst (λ (n : ℕ). 16 < n) (sym (ending-bytes back t xs lo hi a .0)) h in
+        ap (walked g (not back) t 0) (walked-tail f back t xs h) ∙ walked-tail g (not back) t (ending f back t xs) l ∙ ending-undone back t xs lo hi a)
         (eq-or-lt-of-le lo)
 
     -- the rest of a unit after its first block

@@ -43,11 +43,11 @@ pub record Block-by-block (f : List ℕ → List ℕ) (t m b one other : ℕ) (x
 abbrev pub Enciphers-block-by-block : Maps → Type 0
 Enciphers-block-by-block forward =
     For-every-unit (λ key n unit.
-      let m : ℕ = length unit / 16 in
-      Block-by-block (forward (take 32 key)) (first-tweak forward key n) m (length unit % 16) (m - 1) m unit (encipher forward key n unit))
+    let m : ℕ = length unit / 16 in
+    Block-by-block (forward (take 32 key)) (first-tweak forward key n) m (length unit % 16) (m - 1) m unit (encipher forward key n unit))
 
 abbrev pub Deciphers-block-by-block : Maps → Maps → Type 0
 Deciphers-block-by-block forward back =
     For-every-unit (λ key n unit.
-      let m : ℕ = length unit / 16 in
-      Block-by-block (back (take 32 key)) (first-tweak forward key n) m (length unit % 16) m (m - 1) unit (decipher forward back key n unit))
+    let m : ℕ = length unit / 16 in
+    Block-by-block (back (take 32 key)) (first-tweak forward key n) m (length unit % 16) m (m - 1) unit (decipher forward back key n unit))

@@ -122,7 +122,11 @@ impl<C: Cipher> UnitKey<C> {
 }
 
 // What both calls below begin with: the tests, lengths first; then the input goes into the output, to be changed there.
-fn copied<C: Cipher + Drop>(key: &[u8], input: &[u8], output: &mut [u8]) -> Result<UnitKey<C>, Refusal>
+fn copied<C: Cipher + Drop>(
+    key: &[u8],
+    input: &[u8],
+    output: &mut [u8],
+) -> Result<UnitKey<C>, Refusal>
     ensures { λ r. ⌜ Copied (now (key .entry)) (λ k. C·Cipher .key (k .key1) ++ C·Cipher .key (k .key2)) (now (input .entry)) (now (output .entry)) r (now (output .exit)) ⌝ }
 {
     if input.len() < 16 || input.len() > LONGEST_UNIT || output.len() != input.len() {
@@ -135,7 +139,12 @@ fn copied<C: Cipher + Drop>(key: &[u8], input: &[u8], output: &mut [u8]) -> Resu
 
 // Enciphers the unit `input` into `output`. Refuses lengths first: a key not of 64 bytes, an input not of 16 to 4,096,
 // an output of another length; then a key whose halves are equal. Where it refuses, `output` is left alone.
-pub fn encipher<C: Cipher + Drop>(key: &[u8], number: u64, input: &[u8], output: &mut [u8]) -> Result<(), Refusal>
+pub fn encipher<C: Cipher + Drop>(
+    key: &[u8],
+    number: u64,
+    input: &[u8],
+    output: &mut [u8],
+) -> Result<(), Refusal>
     ensures { λ r. ⌜ Makes (call-demands (now (key .entry)) (now (input .entry)) (now (output .entry))) (encipherOf (C·Cipher .forward) (now (key .entry)) number (now (input .entry))) (now (output .entry)) r (now (output .exit)) ⌝ }
 {
     let key = copied::<C>(key, input, output)?;
@@ -144,7 +153,12 @@ pub fn encipher<C: Cipher + Drop>(key: &[u8], number: u64, input: &[u8], output:
 }
 
 // Deciphers the unit `input` into `output`, and refuses as `encipher` does.
-pub fn decipher<C: Cipher + Drop>(key: &[u8], number: u64, input: &[u8], output: &mut [u8]) -> Result<(), Refusal>
+pub fn decipher<C: Cipher + Drop>(
+    key: &[u8],
+    number: u64,
+    input: &[u8],
+    output: &mut [u8],
+) -> Result<(), Refusal>
     ensures { λ r. ⌜ Makes (call-demands (now (key .entry)) (now (input .entry)) (now (output .entry))) (decipherOf (C·Cipher .forward) (C·Cipher .back) (now (key .entry)) number (now (input .entry))) (now (output .entry)) r (now (output .exit)) ⌝ }
 {
     let key = copied::<C>(key, input, output)?;
@@ -155,12 +169,10 @@ pub fn decipher<C: Cipher + Drop>(key: &[u8], number: u64, input: &[u8], output:
 // The theorem that deciphering undoes enciphering and enciphering deciphering, for every cipher, key, number and length.
 pub fn each_undoes_the_other<C: Cipher>()
     ensures { λ _. ⌜ Each-undoes-the-other (C·Cipher .forward) (C·Cipher .back) ⌝ }
-{
-}
+{}
 
 // The theorem that units are enciphered and deciphered block by block as the standard words it, whatever the cipher.
 pub fn block_by_block<C: Cipher>()
     ensures enciphering { λ _. ⌜ Enciphers-block-by-block (C·Cipher .forward) ⌝ }
     ensures deciphering { λ _. ⌜ Deciphers-block-by-block (C·Cipher .forward) (C·Cipher .back) ⌝ }
-{
-}
+{}

@@ -17,11 +17,12 @@ pub loop-i-again : need.loop-i-again
 unfolding keys-at
 loop-i-again c =
     let v = c .loop-i .inv in
-    let i = c .loop-i .i in
-    (length-set _ _ _ ∙ v .0,
-     c .next-state .ensures ∙ ap (keys-next i) (v .1) ∙ ap (keys-at (c .args .bytes .now)) (sym (add-one i)),
-     below-more _ _ (λ j h. let ne : j ≢ i = omega arith in rw getD-set-other (v .2 j h))
-       (let lt : i < length (c .loop-i .round-keys) = omega arith in rw getD-set-same (ap (λ (s : Keys). s .k) (v .1))))
+    let i = c .loop-i .i in (
+      length-set _ _ _ ∙ v .0,
+      c .next-state .ensures ∙ ap (keys-next i) (v .1) ∙ ap (keys-at (c .args .bytes .now)) (sym (add-one i)),
+      below-more _ _ (λ j h. let ne : j ≢ i = omega arith in rw getD-set-other (v .2 j h))
+          (let lt : i < length (c .loop-i .round-keys) = omega arith in rw getD-set-same (ap (λ (s : Keys). s .k) (v .1))),
+    )
 
 pub returns : need.returns
 returns c = λ i h. c .loop-i .inv .2 i (omega arith)

@@ -16,6 +16,6 @@ returns-in-Some g c =
     let fired = c .in-Some .ensures tt in
     let sector : Bytes 520 (c .args .bytes .now) = (ok .0 .0, λ i h. search needs) in
     let both = lost-write (state (before .powered) (before .script) (m (before .card))) (state (tested .powered) (tested .script) (m (tested .card)))
-        (state (stepped .powered) (stepped .script) (m (stepped .card))) (state (lost .powered) (lost .script) (m (lost .card)))
-        (c .in-Some .kind) (c .args .n) (c .args .bytes .now) sector (ok .0) (ok .1) (fired .0) (ap m (fired .1)) (c .lose .ensures .same) (c .lose .ensures .left) in
+    (state (stepped .powered) (stepped .script) (m (stepped .card))) (state (lost .powered) (lost .script) (m (lost .card)))
+    (c .in-Some .kind) (c .args .n) (c .args .bytes .now) sector (ok .0) (ok .1) (fired .0) (ap m (fired .1)) (c .lose .ensures .same) (c .lose .ensures .left) in
     record { card = both .0; cut = both .1 }

@@ -15,6 +15,6 @@ returns g c =
     let looked = c .in-Continue-p .ensures tt in
     record {
       shows = read-shows (m (c .args .self .now .card)) (m (c .pending .last .self .card)) _ (c .args .n) (c .place .result) (c .args .buf .now) (c .read .last .buf)
-      (c .read .result) (looked .1 ∙ counted .1) (omega arith) (c .place .ensures ∙ (cc)) (c .read .ensures);
+          (c .read .result) (looked .1 ∙ counted .1) (omega arith) (c .place .ensures ∙ (cc)) (c .read .ensures);
       keeps = read-keeps (m (c .args .self .now .card)) (m (c .pending .last .self .card)) _ (c .place .result) (c .args .buf .now) (c .read .last .buf) (c .read .result) (looked .1 ∙ counted .1) (c .read .ensures);
     }

@@ -18,6 +18,6 @@ returns g c =
     let staged = c .in-Continue-stage-one .ensures tt in
     record {
       shows = put-one (m (c .args .self .now .card)) (m (c .settle .last .self .card)) (m (c .stage-one .last .self .card)) (m (c .commit-one .last .self .card)) (c .args .n) (c .args .bytes .now) (c .commit-one .result)
-      (search needs) (counted .0) (omega arith) (settled .4 ∙ ap journal-of (counted .1)) (staged .2) (staged .3) (c .commit-one .ensures);
+          (search needs) (counted .0) (omega arith) (settled .4 ∙ ap journal-of (counted .1)) (staged .2) (staged .3) (c .commit-one .ensures);
       settles = idle (m (c .stage-one .last .self .card)) (m (c .commit-one .last .self .card)) (One (c .args .n)) (c .commit-one .result) (c .commit-one .ensures);
     }

@@ -18,6 +18,6 @@ returns g c =
     let staged = c .in-Continue-stage-two .ensures tt in
     record {
       shows = put-two (m (c .args .self .now .card)) (m (c .settle .last .self .card)) (m (c .stage-two .last .self .card)) (m (c .commit-two .last .self .card)) (c .args .a) (c .args .b) (c .args .x .now) (c .args .y .now)
-      (c .commit-two .result) (search needs) (search needs) (counted .0) (omega arith) (omega arith) (search needs) (settled .4 ∙ ap journal-of (counted .1)) (staged .2) (staged .3) (c .commit-two .ensures);
+          (c .commit-two .result) (search needs) (search needs) (counted .0) (omega arith) (omega arith) (search needs) (settled .4 ∙ ap journal-of (counted .1)) (staged .2) (staged .3) (c .commit-two .ensures);
       settles = idle (m (c .stage-two .last .self .card)) (m (c .commit-two .last .self .card)) (Two (c .args .a) (c .args .b)) (c .commit-two .result) (c .commit-two .ensures);
     }

@@ -7,7 +7,6 @@ use Rattle.speck.specs.Speck.{Pair, pair}
 use Rattle.speck.proofs.Rotate.{shifts, shifts-left}
 use Rattle.speck.proofs.Words.round.Needs as need
 
-
 pub returns : need.returns
 returns c =
     let s = c .args .self in

@@ -27,6 +27,7 @@ pub returns : need.returns
 returns g c =
     let key = c .args .key .now in
     let l = c .if-key-ne-KEY-LENGTH .left in
-    let differ = matches-decides (c .half-first .result) (c .half-second .result) (c .eq .result) (c .eq .ensures) .1 in
-    ((l, ((λ e. never (c .eq .result) (differ (c .half-first .ensures ∙ e ∙ sym (c .half-second .ensures ∙ rest key l))) (c .if-eq .left)), tt)),
-     ap₂ _++_ (c .new .ensures ∙ c .half-first .ensures) (c .new-2 .ensures ∙ c .half-second .ensures ∙ rest key l) ∙ take-append-drop 32 key)
+    let differ = matches-decides (c .half-first .result) (c .half-second .result) (c .eq .result) (c .eq .ensures) .1 in (
+      (l, ((λ e. never (c .eq .result) (differ (c .half-first .ensures ∙ e ∙ sym (c .half-second .ensures ∙ rest key l))) (c .if-eq .left)), tt)),
+      ap₂ _++_ (c .new .ensures ∙ c .half-first .ensures) (c .new-2 .ensures ∙ c .half-second .ensures ∙ rest key l) ∙ take-append-drop 32 key,
+    )

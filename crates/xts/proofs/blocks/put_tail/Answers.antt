@@ -16,4 +16,4 @@ returns c =
     let none : drop k (drop at xs) ≡ [] = drop-all k (drop at xs) l in
     ap (λ (z : List ℕ). take at xs ++ z)
     (ap (λ (z : List ℕ). c .copy-from-slice .last .self ++ z) none ∙ append-nil _ ∙ c .copy-from-slice .ensures .after
-     ∙ ap₂ take (sub-zero (length xs - at)) (c .block-bytes-source .ensures))
+    ∙ ap₂ take (sub-zero (length xs - at)) (c .block-bytes-source .ensures))

@@ -13,9 +13,13 @@ use Rattle.card.proofs.battery.BatteryCardStore.put_two.Needs as need
 
 pub returns-then-a-count : need.returns-then-a-count
 returns-then-a-count c =
-    let e = flat-count (vec-items (c .args .self .now .card .bytes)) in
-    (search needs, search needs, refl,
-     ⊎-elim (λ p. inl (omega arith)) (λ q. inr (⊎-elim (λ r. inl (omega arith)) (λ r. inr (r .2)) q)) (c .then-a-count .either), refl)
+    let e = flat-count (vec-items (c .args .self .now .card .bytes)) in (
+      search needs,
+      search needs,
+      refl,
+      ⊎-elim (λ p. inl (omega arith)) (λ q. inr (⊎-elim (λ r. inl (omega arith)) (λ r. inr (r .2)) q)) (c .then-a-count .either),
+      refl,
+    )
 
 pub replace-requires-2 : need.replace-requires-2
 replace-requires-2 c κs =
@@ -24,6 +28,12 @@ replace-requires-2 c κs =
 
 pub returns : need.returns
 returns c =
-    let e = flat-count (vec-items (c .args .self .now .card .bytes)) in
-    (search needs, search needs, refl, omega arith, omega arith, search needs,
-     c .replace-2 .ensures ∙ ap (λ (m : Meaning). put m (c .args .b) (c .args .y .now)) (c .replace .ensures))
+    let e = flat-count (vec-items (c .args .self .now .card .bytes)) in (
+      search needs,
+      search needs,
+      refl,
+      omega arith,
+      omega arith,
+      search needs,
+      c .replace-2 .ensures ∙ ap (λ (m : Meaning). put m (c .args .b) (c .args .y .now)) (c .replace .ensures),
+    )
