@@ -1,3 +1,4 @@
+use borrow.Author.Needs.{needs}
 use mathlib.Core.List.{[]}
 use Rattle.journal.specs.declared.slip.Pending.the-variants.{One}
 use Rattle.journal.proofs.Settles.{fits, unseen-one, up-after, placed-one}
@@ -5,7 +6,7 @@ use Rattle.journal.proofs.Commits.{over-places}
 use Rattle.journal.proofs.Journal.commit_one.Needs as need
 
 pub write-unseen-requires : need.write-unseen-requires
-write-unseen-requires g c κs = record { still = unseen-one _ _ _ (c .in-Continue-raise .ensures tt .1); long = c .pre .long }
+write-unseen-requires g c κs = record { still = unseen-one _ _ _ (c .in-Continue-raise .ensures tt .1); long = search needs }
 
 pub lower-requires : need.lower-requires
 lower-requires g c κs =
