@@ -69,3 +69,46 @@ fn serve_all(rt: &LibcRuntime) -> Result<(), Fault> {
 fn main(rt: LibcRuntime) -> Result<(), Fault> {
     rt.report(serve_all(&rt))
 }
+
+#[cfg(test)]
+mod tests {
+    use super::*;
+    use std::test::*;
+
+    // A line that cannot be read, and what was expected in it.
+    const BAD_LINES: [(&str, &str); 14] = [
+        ("blocks", "block, block-back, unit or unit-back"),
+        ("Block speck", "block, block-back, unit or unit-back"),
+        ("block", "aes256 or speck"),
+        ("block aes128 00 00", "aes256 or speck"),
+        ("block speck", "KEY in hex"),
+        ("block speck # 00 00", "KEY in hex"),
+        ("block speck 000 00", "KEY in hex"),
+        ("unit aes256 0x 0 00", "KEY in hex"),
+        ("unit aes256 00", "NUMBER, a decimal number below 2^64"),
+        ("unit aes256 00 18446744073709551616 00", "NUMBER, a decimal number below 2^64"),
+        ("unit aes256 00 -1 00", "NUMBER, a decimal number below 2^64"),
+        ("unit-back aes256 00 0", "IN in hex"),
+        ("block speck 00 00 zz", "EXPECTED in hex"),
+        ("block speck 00 00 00 00", "nothing after EXPECTED"),
+    ];
+
+    #[test]
+    fn bad_lines_are_named(rt: LibcRuntime) -> Result<(), Fail> {
+        let heap = rt.alloc();
+        for (line, wanted) in BAD_LINES {
+            let mut tally = Tally {
+                agreed: 0,
+                differed: 0,
+            };
+            let Err(expected) = reply_to(heap, line, &mut tally) else {
+                return Err(Fail::new("a bad line was read"));
+            };
+            let fault = Fault::Line(7, expected);
+            let said = format!(heap, "{fault:?}")?;
+            let should = format!(heap, "line 7: expected {wanted}")?;
+            check_eq(said, should)?;
+        }
+        Ok(())
+    }
+}
