@@ -12,7 +12,7 @@ use Rattle.std.specs.declared.result.Result.{Result}
 use Rattle.std.specs.declared.result.Result.the-variants.{Ok, Err}
 use Rattle.refusal.specs.declared.Refusal.{Refusal}
 use Rattle.card.specs.Meaning.{Meaning, count, off}
-use Rattle.card.specs.Calls.{Refused, PoweredUp, ReadAt, WroteAt}
+use Rattle.card.specs.Calls.{Refused, Counted, PoweredUp, ReadAt, WroteAt}
 use Rattle.cut.specs.declared.Script.{Script}
 
 -- the sectors of the card below; the power is on where it is on below and the layer has not cut it
@@ -91,9 +91,11 @@ CutWrote s t k b r =
     ⊎ ((Access s k b × (Fired s t × Lost (s .script) (s .below) (t .below) k b))
     ⊎ (Access s k b × (Served s t × WroteAt (s .below) (t .below) k b r))))
 
--- the count is no access
-abbrev pub CutCounted : State → State → Type 0
-CutCounted s t = (t .powered ≡ s .powered) × (t .script ≡ s .script) × ((t .below ≡ s .below) ⊎ (t .below ≡ off (s .below)))
+-- the count is no access: without power nothing changes, and with it the card below is asked
+abbrev pub CutCounted : State → State → Result ℕ Refusal → Type 0
+CutCounted s t r =
+    ((s .powered ≡ false) × (t ≡ s))
+    ⊎ ((s .powered ≡ true) × (t .powered ≡ true) × (t .script ≡ s .script) × Counted (s .below) (t .below) r)
 
 -- a power-up ends the script, and turns the power on where the card below does
 abbrev pub CutPoweredUp : State → State → Result (Unit {0}) Refusal → Type 0

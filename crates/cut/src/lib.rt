@@ -79,7 +79,7 @@ pub impl<C: Card> Card for Cut<C> as CutCard {
 
     fn count(&mut self) -> Result<u32, Refusal>
         ensures card { λ r. ⌜ Counted (cut-of (now (self .entry) .powered) (C·Card .meaning (now (self .entry) .card))) (cut-of (now (self .exit) .powered) (C·Card .meaning (now (self .exit) .card))) r ⌝ }
-        ensures cut { λ _. ⌜ CutCounted (state (now (self .entry) .powered) (now (self .entry) .script) (C·Card .meaning (now (self .entry) .card))) (state (now (self .exit) .powered) (now (self .exit) .script) (C·Card .meaning (now (self .exit) .card))) ⌝ }
+        ensures cut { λ r. ⌜ CutCounted (state (now (self .entry) .powered) (now (self .entry) .script) (C·Card .meaning (now (self .entry) .card))) (state (now (self .exit) .powered) (now (self .exit) .script) (C·Card .meaning (now (self .exit) .card))) r ⌝ }
     {
         if self.powered {
             self.card.count()

@@ -21,3 +21,7 @@ numbered NothingLeft = 9
 abbrev pub Named : ℕ → Option Refusal → Type 0
 Named n (Some e) = numbered e ≡ n
 Named n None = (e : Refusal) → numbered e ≡ n → ⊥
+
+-- no two refusals have one number
+abbrev pub Numbers-differ : Type 0
+Numbers-differ = (e f : Refusal) → numbered e ≡ numbered f → e ≡ f

@@ -3,7 +3,7 @@ ghost use mathlib.Core.Path.{_≡_};
 ghost use Prim.Native.Nat.{ℕ, _≤_};
 ghost use lib.Chars.{codes};
 ghost use Rattle.std.specs.declared.option.Option.the-variants.{Some};
-ghost use Rattle.refusal.specs.Numbers.{numbered, Named};
+ghost use Rattle.refusal.specs.Numbers.{numbered, Named, Numbers-differ};
 ghost use Rattle.refusal.specs.Texts.{text as textOf};
 use std::fmt;
 
@@ -81,4 +81,11 @@ pub impl fmt::Display for Refusal as RefusalDisplay {
     fn fmt<W: fmt::Write>(&self, f: &mut fmt::Formatter<W>) -> fmt::Result {
         f.pad(self.text())
     }
+}
+
+// The theorem that no two refusals have one number: a number that is printed says which refusal it was.
+pub fn numbers_differ() -> u8
+    ensures { λ _. ⌜ Numbers-differ ⌝ }
+{
+    0
 }

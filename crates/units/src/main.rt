@@ -86,8 +86,14 @@ mod tests {
         ("block speck 000 00", "KEY in hex"),
         ("unit aes256 0x 0 00", "KEY in hex"),
         ("unit aes256 00", "NUMBER, a decimal number below 2^64"),
-        ("unit aes256 00 18446744073709551616 00", "NUMBER, a decimal number below 2^64"),
-        ("unit aes256 00 -1 00", "NUMBER, a decimal number below 2^64"),
+        (
+            "unit aes256 00 18446744073709551616 00",
+            "NUMBER, a decimal number below 2^64",
+        ),
+        (
+            "unit aes256 00 -1 00",
+            "NUMBER, a decimal number below 2^64",
+        ),
         ("unit-back aes256 00 0", "IN in hex"),
         ("block speck 00 00 zz", "EXPECTED in hex"),
         ("block speck 00 00 00 00", "nothing after EXPECTED"),

@@ -11,8 +11,8 @@ use Rattle.bytes.specs.Little.{Bytes}
 use Rattle.bytes.proofs.Lists.{rest-bytes}
 use Rattle.xts.specs.Xts.{doubled, under, stolen, ending, walked}
 use Rattle.xts.specs.Theorems.{tweak, block, Block-by-block}
-use Rattle.xts.proofs.Steps.{walked-whole, walked-tail}
-use Rattle.xts.proofs.Undone.{All-bytes, Undone-by, under-block, front, rest-of, filled-block}
+use Rattle.xts.proofs.Steps.{walked-whole, walked-tail, filled-block}
+use Rattle.xts.proofs.Undone.{All-bytes, Undone-by, under-block, front, rest-of}
 
 -- a doubling more, at the other end
 tweak-on : (t j : ℕ) → tweak (doubled t) j ≡ tweak t (suc j)
@@ -58,12 +58,12 @@ module _ (f g : List ℕ → List ℕ) (law : Undone-by f g) (back : Bool) where
   stolen-head : (o p : ℕ) (zs : List ℕ) → 16 ≤ length zs → length zs < 32 → All-bytes zs → take 16 (stolen f o p zs) ≡ under f p (drop 16 zs ++ drop (length zs - 16) (under f o (take 16 zs)))
   stolen-head o p zs lo hi a =
       let q = under-block f g law o (take 16 zs) (front f g law zs lo a) in
-      take-at _ (take (length zs - 16) (under f o (take 16 zs))) 16 (under-block f g law p _ (filled-block f g law zs (under f o (take 16 zs)) lo hi a q) .0)
+      take-at _ (take (length zs - 16) (under f o (take 16 zs))) 16 (under-block f g law p _ (filled-block zs (under f o (take 16 zs)) 16 lo (omega arith) a q) .0)
 
   stolen-tail : (o p : ℕ) (zs : List ℕ) → 16 ≤ length zs → length zs < 32 → All-bytes zs → drop 16 (stolen f o p zs) ≡ take (length zs - 16) (under f o (take 16 zs))
   stolen-tail o p zs lo hi a =
       let q = under-block f g law o (take 16 zs) (front f g law zs lo a) in
-      drop-at _ (take (length zs - 16) (under f o (take 16 zs))) 16 (under-block f g law p _ (filled-block f g law zs (under f o (take 16 zs)) lo hi a q) .0)
+      drop-at _ (take (length zs - 16) (under f o (take 16 zs))) 16 (under-block f g law p _ (filled-block zs (under f o (take 16 zs)) 16 lo (omega arith) a q) .0)
 
   module _ (t m b one other : ℕ) (xs : List ℕ) (some : 1 ≤ m) (long : m * 16 + b ≡ length xs) (less : b < 16) (a : All-bytes xs)
       (ends : (zs : List ℕ) → ending f back (tweak t (m - 1)) zs ≡ stolen f (tweak t one) (tweak t other) zs) where

@@ -1,5 +1,5 @@
 -- The walk over a unit's blocks, step by step, for any map of blocks and in both directions.
-use mathlib.Core.Path.{_≡_, refl, sym, ap, ap₂, _∙_}
+use mathlib.Core.Path.{_≡_, refl, sym, ap, ap₂, _∙_, subst}
 use mathlib.Core.Bool.{Bool, cond}
 use mathlib.Core.List.{List, [], _∷_, _++_, append-assoc, append-nil}
 use Prim.Native.Nat.{ℕ, zero, suc, _+_, _-_, _*_, _<_, _≤_}
@@ -9,6 +9,8 @@ use lib.ListN.{length, take, drop, length-take, length-drop, length-append}
 use lib.Seq.{take-all, drop-drop, take-append-le, take-take}
 use borrow.Author.Tests.{ne-eqb}
 use Rattle.std.proofs.shelf.Lists.{take-at, drop-at, drop-all}
+use Rattle.bytes.specs.Little.{Bytes}
+use Rattle.bytes.proofs.Lists.{rest-bytes, append-bytes}
 use Rattle.xts.specs.Xts.{doubled, under, stolen, ending, walked}
 
 module _ (f : List ℕ → List ℕ) (back : Bool) where
@@ -59,3 +61,11 @@ tail-stolen f one other at xs q p us c vs lo hi lq eq ep eu ec ev =
     let made : c ≡ under f other (drop 16 (drop at xs) ++ drop rest q) = ec ∙ ap (under f other) (ep ∙ ap (λ (z : List ℕ). z ++ drop rest q) (sym (drop-drop 16 at xs))) in
     let goal : c ++ take rest q ≡ stolen f one other (drop at xs) = rw (b, ← eq) (ap (λ (z : List ℕ). z ++ take rest q) made) in
     ev ∙ ap₂ _++_ front (ap (λ (z : List ℕ). c ++ z) back ∙ goal)
+
+-- a tail of a unit, filled up, is a block
+pub filled-block : (xs q : List ℕ) (at : ℕ) → at ≤ length xs → length xs ≤ at + 16 → Bytes (length xs) xs → Bytes 16 q → Bytes 16 (drop at xs ++ drop (length xs - at) q)
+filled-block xs q at lo hi hx hq =
+    let rest : ℕ = length xs - at in
+    let whole : rest + (16 - rest) ≡ 16 = omega arith in
+    subst (λ (n : ℕ). Bytes n (drop at xs ++ drop rest q)) whole
+    (append-bytes rest (16 - rest) (drop at xs) (drop rest q) (rest-bytes at rest (length xs) xs (omega arith) hx) (rest-bytes rest (16 - rest) 16 q (omega arith) hq))

@@ -13,7 +13,7 @@ use Rattle.bytes.specs.Little.{Bytes, le-bytes, xored}
 use Rattle.bytes.proofs.Lists.{xored-twice, xored-bytes, part-bytes, rest-bytes, append-bytes}
 use Rattle.bytes.proofs.Numbers.{le-bytes-bytes, length-le-bytes}
 use Rattle.xts.specs.Xts.{doubled, under, stolen, ending, walked}
-use Rattle.xts.proofs.Steps.{walked-whole, walked-tail}
+use Rattle.xts.proofs.Steps.{walked-whole, walked-tail, filled-block}
 
 -- all the bytes of a list
 abbrev pub All-bytes : List ℕ → Type 0
@@ -41,20 +41,12 @@ module _ (f g : List ℕ → List ℕ) (law : Undone-by f g) where
   pub front : (xs : List ℕ) → 16 ≤ length xs → All-bytes xs → Bytes 16 (take 16 xs)
   front xs lo a = part-bytes 0 16 (length xs) xs (omega arith) a
 
-  -- the block that the tail is filled up to
-  pub filled-block : (xs q : List ℕ) → 16 ≤ length xs → length xs < 32 → All-bytes xs → Bytes 16 q → Bytes 16 (drop 16 xs ++ drop (length xs - 16) q)
-  filled-block xs q lo hi a hq =
-      let b : ℕ = length xs - 16 in
-      let whole : b + (16 - b) ≡ 16 = omega arith in
-      subst (λ (n : ℕ). Bytes n (drop 16 xs ++ drop b q)) whole
-      (append-bytes b (16 - b) (drop 16 xs) (drop b q) (rest-bytes 16 b (length xs) xs (omega arith) a) (rest-bytes b (16 - b) 16 q (omega arith) hq))
-
   stolen-bytes : (one other : ℕ) (xs : List ℕ) → 16 ≤ length xs → length xs < 32 → All-bytes xs → Bytes (length xs) (stolen f one other xs)
   stolen-bytes one other xs lo hi a =
       let b : ℕ = length xs - 16 in
       let hq = under-block one (take 16 xs) (front xs lo a) in
       let q = under f one (take 16 xs) in
-      let c = under-block other _ (filled-block xs q lo hi a hq) in
+      let c = under-block other _ (filled-block xs q 16 lo (omega arith) a hq) in
       let whole : 16 + b ≡ length xs = omega arith in
       subst (λ (n : ℕ). Bytes n (stolen f one other xs)) whole (append-bytes 16 b _ (take b q) c (part-bytes 0 b 16 q (omega arith) hq))
 
@@ -64,7 +56,7 @@ module _ (f g : List ℕ → List ℕ) (law : Undone-by f g) where
       let q : List ℕ = under f one (take 16 xs) in
       let hq = under-block one (take 16 xs) (front xs lo a) in
       let p : List ℕ = drop 16 xs ++ drop b q in
-      let hp = filled-block xs q lo hi a hq in
+      let hp = filled-block xs q 16 lo (omega arith) a hq in
       let c : List ℕ = under f other p in
       let lc = under-block other p hp .0 in
       let lq = hq .0 in

@@ -1,4 +1,4 @@
-use mathlib.Core.Path.{_≡_, _∙_, ap, ap₂, refl, subst}
+use mathlib.Core.Path.{_≡_, _∙_, ap, ap₂, refl}
 use mathlib.Core.List.{List, _++_}
 use Prim.Native.Nat.{ℕ, _+_, _-_, _≤_}
 use native.Mathlib.Omega.{arith}
@@ -7,17 +7,9 @@ use borrow.Author.Needs.{needs}
 use lib.ListN.{length, take, drop, length-drop}
 use lib.Seq.{take-all}
 use Rattle.bytes.specs.Little.{Bytes, le-bytes, le-number}
-use Rattle.bytes.proofs.Lists.{rest-bytes, append-bytes}
 use Rattle.bytes.proofs.Numbers.{bytes-number, le-bytes-bytes}
+use Rattle.xts.proofs.Steps.{filled-block}
 use Rattle.xts.proofs.blocks.filled.Needs as need
-
--- a tail of a unit, filled up, is a block
-filled-block : (xs q : List ℕ) (at : ℕ) → at ≤ length xs → length xs ≤ at + 16 → Bytes (length xs) xs → Bytes 16 q → Bytes 16 (drop at xs ++ drop (length xs - at) q)
-filled-block xs q at lo hi hx hq =
-    let rest : ℕ = length xs - at in
-    let whole : rest + (16 - rest) ≡ 16 = omega arith in
-    subst (λ (n : ℕ). Bytes n (drop at xs ++ drop rest q)) whole
-    (append-bytes rest (16 - rest) (drop at xs) (drop rest q) (rest-bytes at rest (length xs) xs (omega arith) hx) (rest-bytes rest (16 - rest) 16 q (omega arith) hq))
 
 pub returns : need.returns
 returns c =
