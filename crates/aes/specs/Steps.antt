@@ -1,8 +1,8 @@
 -- Each step of a round keeps a state a state and is undone, and mixing goes through a sum.
-use Rattle.std.specs.Prelude.{◌≡◌, ℕ, zero, suc, ◌+◌, ◌-◌, ◌*◌, ◌/◌, ◌%◌, ◌<◌, cond, List, [], ◌∷◌, ◌++◌, map, length, ◌==◌, bit_xor, refl}
+use Rattle.std.specs.Prelude.{◌≡◌, ℕ, zero, suc, ◌+◌, ◌-◌, ◌*◌, ◌/◌, ◌%◌, ◌<◌, cond, List, ◌++◌, map, length, ◌==◌, bit_xor, refl}
 use Rattle.std.proofs.Common.{sym, ap, ap₂, ◌∙◌, add-zero, arith}
 use Rattle.std.specs.Int.Bits.{xor_zero_r, xor_zero_l}
-use Rattle.std.specs.List.{AllByRecursion as All}
+use Rattle.std.specs.List.{AllByRecursion}
 use Rattle.std.proofs.ByRecursion.{All-append, All-map, All-weaker}
 use Rattle.std.proofs.lemmas.List.{length-map}
 use Rattle.octets.specs.Little.{Bytes, le_bytes, xored}
@@ -111,7 +111,7 @@ mixed_xor cs s t small hs ht =
     ∙ sym (get_or_xored (mixed_by cs s) (mixed_by cs t) k alike lk ∙ ap₂ bit_xor (listed_at 16 (mixed_at cs s) k hk) (listed_at 16 (mixed_at cs t) k hk)))
 
 -- four words
-all_word : (x : ℕ) → All (λ b. b < 256) (le_bytes 4 x)
+all_word : (x : ℕ) → AllByRecursion (λ b. b < 256) (le_bytes 4 x)
 all_word x = all_of 4 (le_bytes 4 x) (le_bytes_bytes 4 x)
 
 pub state_bytes : (a b c d : ℕ) → Bytes 16 (four a b c d)

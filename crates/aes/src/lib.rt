@@ -1,4 +1,6 @@
 // AES-256 on lookup tables: a block stays in four words, and deciphering is the equivalent inverse cipher of FIPS 197.
+#![tactic(auto)]
+
 ghost use Rattle.std.specs.Prelude.{◌≡◌, ◌+◌, ◌*◌, ◌/◌, ◌%◌, ◌^◌, ◌<◌, ◌≤◌, length, take, drop};
 ghost use Rattle.octets.specs.Little.{Bytes, le_bytes, le_number, xored};
 ghost use Rattle.aes.specs.Aes.{sub_bytes, sub_bytes_back, shift_rows, shift_rows_back, mix_columns_back, changed, expanded, schedule, round_key, round_with, ciphered, ciphered_back, aes, aes_back};

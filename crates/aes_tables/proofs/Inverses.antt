@@ -1,6 +1,6 @@
 -- The field's inverse is one, and the substitution and its inverse undo each other.
 use Rattle.std.proofs.Common.{◌≡◌, ℕ, ◌<◌, cond, eqb, List, [], ◌∷◌, map, refl, ap₂}
-use Rattle.std.specs.List.{AllByRecursion as All}
+use Rattle.std.specs.List.{AllByRecursion}
 use Rattle.aes_tables.specs.Field.{mul, inverse, sub, sub_back}
 use Rattle.aes_tables.proofs.Tests.{byte_rule, byte_bound}
 
@@ -29,6 +29,6 @@ unfolding sub_back inverse mul
 sub_back_lt = byte_bound sub_back tt
 
 -- one function of bytes undoes another in a whole list
-pub map_undone : (f g : ℕ → ℕ) → ((a : ℕ) → a < 256 → g (f a) ≡ a) → (s : List ℕ) → All (λ a. a < 256) s → map g (map f s) ≡ s
+pub map_undone : (f g : ℕ → ℕ) → ((a : ℕ) → a < 256 → g (f a) ≡ a) → (s : List ℕ) → AllByRecursion (λ a. a < 256) s → map g (map f s) ≡ s
 map_undone f g e [] h = refl
 map_undone f g e (x ∷ xs) h = ap₂ ◌∷◌ (e x h.0) (map_undone f g e xs h.1)

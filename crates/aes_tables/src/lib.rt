@@ -1,4 +1,6 @@
 // One column of a round of AES by lookup tables, forward and back, on words of 32 bits.
+#![tactic(auto)]
+
 ghost use Rattle.std.specs.Prelude.{◌≡◌, ◌/◌, ◌%◌};
 ghost use Rattle.octets.specs.Little.{le_number, le_bytes, xored};
 ghost use Rattle.aes_tables.specs.Field.{sub, sub_back, InverseHolds};

@@ -1,10 +1,10 @@
 -- A put of one sector is a write, and a write that cannot lose power is a put.
-use Rattle.std.proofs.Common.{◌≡◌, ℕ, true, false, ◌⊎◌, List, length, Ok, Err, Result, sym, ap, ◌∙◌, subst, inl, inr, ⊎_elim}
+use Rattle.std.proofs.Common.{◌≡◌, ℕ, true, List, length, Ok, Err, Result, ap, subst, inl, inr, ⊎_elim}
 use Rattle.std.proofs.lemmas.Bool.{both_ways}
 use Rattle.refusal.specs.declared.Refusal.{Refusal}
 use Rattle.octets.specs.Little.{Bytes}
-use Rattle.card.specs.Meaning.{Meaning, Sector, put, off}
-use Rattle.card.specs.Calls.{Refused, Torn, WroteAt, PutOne}
+use Rattle.card.specs.Meaning.{Meaning, put, off}
+use Rattle.card.specs.Calls.{WroteAt, PutOne}
 use Rattle.card.proofs.Refusals.{refused_map}
 
 pub put_is_write : (m n : Meaning) (k : ℕ) (b : List ℕ) (r : Result (Unit {0}) Refusal) → Bytes (length b) b → PutOne m n k b r → WroteAt m n k b r

@@ -1,12 +1,11 @@
 -- A call that passed the length test answers "power" exactly where the power is off at its end.
-use Rattle.std.proofs.Common.{◌≡◌, ℕ, Bool, true, false, ◌⊎◌, List, length, Ok, Err, Result, refl, ap, ◌∙◌, inl, inr, ⊎_elim, arith}
+use Rattle.std.proofs.Common.{◌≡◌, ℕ, true, false, List, length, Ok, Err, Result, refl, ap, ◌∙◌, ⊎_elim, arith}
 use Rattle.std.proofs.lemmas.Bool.{both_ways}
 use Rattle.refusal.specs.declared.Refusal.{Refusal}
 use Rattle.refusal.specs.declared.Refusal.TheVariants.{WrongLength, PowerOff, OutOfRange, InvalidTrailer, UnfitKey, WrongStage, PermitOut, SectorsLeft, NothingLeft}
-use Rattle.refusal.specs.Numbers.{numbered}
-use Rattle.card.specs.Meaning.{Meaning, off}
+use Rattle.card.specs.Meaning.{Meaning}
 use Rattle.card.specs.Calls.{Refused, Counted, PoweredUp, ReadAt, WroteAt, PutOne, PutTwo}
-use Rattle.card.specs.Theorems.{SaysPower, PowerIsTold, PowerAlwaysTold}
+use Rattle.card.specs.Theorems.{PowerIsTold, PowerAlwaysTold}
 
 -- a done call leaves the power on
 done : {A : Type 0} (a : A) (n : Meaning) → n.power ≡ true → PowerIsTold (Ok a) n

@@ -1,5 +1,5 @@
 -- A buffer of bytes as a card: sectors that follow one another, as many as fit, at most 4,096, with the power on.
-use Rattle.std.specs.Prelude.{ℕ, ◌+◌, ◌*◌, ◌/◌, min, true, List, map, length, take, drop}
+use Rattle.std.specs.Prelude.{ℕ, ◌*◌, ◌/◌, min, true, List, map, length, take, drop}
 use Rattle.std.specs.List.{range_with_len}
 use Rattle.card.specs.Meaning.{Meaning}
 

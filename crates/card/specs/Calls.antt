@@ -1,7 +1,7 @@
 -- What each call of a card or a whole store does: a relation between the meaning before (m) and after (n), the
 -- arguments, the buffer before and after, and the reply. Only whether the power fails, and what a write that loses power
 -- leaves in its own sector, is free.
-use Rattle.std.specs.Prelude.{◌≡◌, ℕ, ◌<◌, ◌≤◌, Bool, true, false, ◌≢◌, ◌⊎◌, List, length, Ok, Err, Result}
+use Rattle.std.specs.Prelude.{◌≡◌, ℕ, ◌<◌, ◌≤◌, true, ◌≢◌, ◌⊎◌, List, length, Ok, Err, Result}
 use Rattle.refusal.specs.declared.Refusal.{Refusal}
 use Rattle.refusal.specs.declared.Refusal.TheVariants.{WrongLength, PowerOff, OutOfRange, InvalidTrailer, UnfitKey, WrongStage, PermitOut, SectorsLeft, NothingLeft}
 use Rattle.card.specs.Meaning.{Meaning, Sector, count, at, put, off, on}

@@ -1,6 +1,6 @@
 -- A buffer as a card: its count, its sectors, and what writing a sector into it makes of it.
-use Rattle.std.specs.Prelude.{◌≡◌, ℕ, ◌+◌, ◌-◌, ◌*◌, ◌/◌, ◌^◌, ◌<◌, ◌≤◌, min, true, ◌⊎◌, List, [], ◌++◌, map, length, take, drop, slice_index_or, slice_set, refl}
-use Rattle.std.proofs.Common.{ap, ap₂, ◌∙◌, sym, subst, inl, inr, length-take, length-drop, arith, rules}
+use Rattle.std.specs.Prelude.{◌≡◌, ℕ, ◌+◌, ◌-◌, ◌*◌, ◌/◌, ◌<◌, ◌≤◌, min, true, ◌⊎◌, List, [], ◌++◌, length, take, drop, slice_index_or, slice_set}
+use Rattle.std.proofs.Common.{ap, ◌∙◌, sym, subst, inl, inr, length-take, length-drop, arith, rules}
 use Rattle.std.proofs.Math.Seq.{paste}
 use Rattle.std.proofs.lemmas.List.FromFn.{length-map-range_with_len, get_or-map-range_with_len}
 use Rattle.std.proofs.lemmas.List.{same_lists, places, get_or-set_same, get_or-set_other, length-set, ext_get_or, take-append-le, take_all}
@@ -8,7 +8,7 @@ use Rattle.std.proofs.lemmas.List.Edits.{length-paste}
 use Rattle.std.proofs.lemmas.Bool.{cases_eq, cases_lt}
 use Rattle.octets.specs.Little.{Bytes}
 use Rattle.octets.proofs.Lists.{part_bytes, rest_bytes, append_bytes}
-use Rattle.card.specs.Meaning.{Meaning, Sector, Sound, count, at, put}
+use Rattle.card.specs.Meaning.{Meaning, Sound, count, at, put}
 use Rattle.card.specs.Buffers.{flat, count_in, sector_in}
 
 -- all of a buffer

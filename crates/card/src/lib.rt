@@ -1,4 +1,6 @@
 // A card of sectors of 520 bytes, and a whole store: a card whose puts are all or nothing.
+#![tactic(auto)]
+
 ghost use Rattle.std.specs.Prelude.{◌≡◌};
 ghost use Rattle.card.specs.Meaning.{Meaning, Sound};
 ghost use Rattle.card.specs.Theorems.{PowerAlwaysTold};

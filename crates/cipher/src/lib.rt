@@ -1,4 +1,6 @@
 // What a block cipher is: made from a key of 32 bytes, it is that key's map of blocks of 16 bytes, and the map back.
+#![tactic(auto)]
+
 ghost use Rattle.std.specs.Prelude.{◌≡◌, List, ℕ};
 ghost use Rattle.octets.specs.Little.{Bytes, le_bytes};
 ghost use Rattle.cipher.specs.Maps.{Maps, Inverse};

@@ -1,13 +1,12 @@
 -- What a write that the cut layer loses leaves.
-use Rattle.std.proofs.Common.{◌≡◌, ℕ, zero, suc, ◌<◌, ◌≤◌, Bool, true, false, ◌&&◌, eqb, ◌≢◌, ◌⊎◌, List, [], length, get_or, replicate, Some, None, Ok, Err, Option, Result, sym, refl, ap, ◌∙◌, subst, inl, inr, ⊎_elim, lit<, eq-eqb}
-use Rattle.std.specs.List.{AllByRecursion as All}
+use Rattle.std.proofs.Common.{◌≡◌, ℕ, zero, suc, ◌<◌, Bool, true, false, List, length, replicate, Some, None, Ok, Err, Option, Result, sym, refl, ap, ◌∙◌, subst, inl, inr, ⊎_elim, lit<, eq-eqb}
+use Rattle.std.specs.List.{AllByRecursion}
 use Rattle.refusal.specs.declared.Refusal.{Refusal}
 use Rattle.refusal.specs.declared.Refusal.TheVariants.{PowerOff}
-use Rattle.octets.specs.Little.{Bytes}
 use Rattle.octets.proofs.Lists.{of_all}
 use Rattle.cut.specs.declared.Script.{Script}
-use Rattle.card.specs.Meaning.{Meaning, Sector, count, put, off}
-use Rattle.card.specs.Calls.{Refused, Torn, WroteAt}
+use Rattle.card.specs.Meaning.{Meaning, Sector, off}
+use Rattle.card.specs.Calls.{Torn, WroteAt}
 use Rattle.cut.specs.Cuts.{cut_of, firing, Stepped, State, Access, junk, Left, Lost, CutWrote}
 use Rattle.card.proofs.Refusals.{refused_any}
 
@@ -28,7 +27,7 @@ torn_by m n k b (Err e) h w =
     (λ q. ⊎_elim (λ (x : n ≡ off m). inl (ap (cut_of false) x)) (λ t. inr (t.0, t.1, (t.2.0, (t.2.1.0, ap (cut_of false) t.2.1.1)))) q.1)
     (λ r. inl (ap (cut_of false) r.3)) w
 
-all_same : (n x : ℕ) → x < 256 → All (λ b. b < 256) (replicate n x)
+all_same : (n x : ℕ) → x < 256 → AllByRecursion (λ b. b < 256) (replicate n x)
 all_same zero x h = tt
 all_same (suc n) x h = (h, all_same n x h)
 

@@ -1,4 +1,6 @@
 // The cut layer: a card over any card that loses power by a script, for trying what a power cut leaves.
+#![tactic(auto)]
+
 ghost use Rattle.std.specs.Prelude.{◌≡◌, true, false, Some, None};
 ghost use Rattle.std.specs.Borrow.{sem, follows};
 ghost use Rattle.cut.specs.contracts.Cut.{the_row};

@@ -1,5 +1,7 @@
 // Cuts the power in every access of a put, and again in every access of the settling that follows, with each kind of
 // lost write, and prints what the targets show when the power is back: all old or all new, never a mixture.
+#![tactic(auto)]
+
 mod trial;
 
 use anyhow::anyhow;

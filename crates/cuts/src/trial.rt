@@ -1,4 +1,5 @@
 // One trial: a put on a fresh store, cut at a chosen access, and what its targets show afterwards.
+use anyhow::anyhow;
 use card::{Card, FlatCard, WholeStore};
 use cut::{Cut, Script};
 use journal::Journal;
@@ -167,7 +168,7 @@ impl fmt::Display for Targets {
 fn told(reply: Result<(), Refusal>) -> anyhow::Result<()> {
     match reply {
         Ok(()) => Ok(()),
-        Err(refusal) => Err(refusal.text().into()),
+        Err(refusal) => Err(anyhow!(refusal.text())),
     }
 }
 

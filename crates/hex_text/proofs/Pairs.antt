@@ -3,7 +3,7 @@ use Rattle.std.proofs.Common.{◌≡◌, ℕ, ◌+◌, ◌*◌, ◌/◌, ◌%◌
 use Rattle.std.proofs.ByRecursion.{All-get_or}
 use Rattle.std.proofs.lemmas.List.{append-nil, drop_all, drop_more}
 use Rattle.std.proofs.lemmas.Bool.Decides.{nat_tests}
-use Rattle.std.specs.List.{AllByRecursion as All}
+use Rattle.std.specs.List.{AllByRecursion}
 use Rattle.std.specs.Char.{digit_char, digit_value}
 use Rattle.hex_text.specs.Texts.{hex_text, hex_bytes, HexDigit, pair_value, Spells}
 
@@ -26,7 +26,7 @@ length_text : (bs : List ℕ) → length (hex_text bs) ≡ 2 * length bs
 length_text [] = refl
 length_text (b ∷ bs) = let e = length_text bs in omega arith
 
-digits_all : (bs : List ℕ) → All (λ b. b < 256) bs → All HexDigit (hex_text bs)
+digits_all : (bs : List ℕ) → AllByRecursion (λ b. b < 256) bs → AllByRecursion HexDigit (hex_text bs)
 digits_all [] a = tt
 digits_all (b ∷ bs) a =
     let h = a.0 in
@@ -34,12 +34,12 @@ digits_all (b ∷ bs) a =
     let f = char_value (b % 16) (omega arith) in
     (subst (λ (v : ℕ). v < 16) (sym e) (omega arith), (subst (λ (v : ℕ). v < 16) (sym f) (omega arith), digits_all bs a.1))
 
-bytes_text : (bs : List ℕ) → All (λ b. b < 256) bs → hex_bytes (hex_text bs) ≡ bs
+bytes_text : (bs : List ℕ) → AllByRecursion (λ b. b < 256) bs → hex_bytes (hex_text bs) ≡ bs
 bytes_text [] a = refl
 bytes_text (b ∷ bs) a = ap₂ ◌∷◌ (pair_of b a.0) (bytes_text bs a.1)
 
 -- what is encoded reads back
-pub spelt : (bs : List ℕ) → All (λ b. b < 256) bs → Spells (hex_text bs) bs
+pub spelt : (bs : List ℕ) → AllByRecursion (λ b. b < 256) bs → Spells (hex_text bs) bs
 spelt bs a = record {
   even = let e = length_text bs in omega arith;
   digits = λ k h. All-get_or HexDigit (hex_text bs) k 0 h (digits_all bs a);

@@ -2,7 +2,7 @@
 use Rattle.std.proofs.Common.{◌≡◌, ℕ, ◌-◌, ◌^◌, ◌<◌, ◌≤◌, Bool, true, false, ◌≢◌, List, length, get_or, set, replicate, Ok, Err, Result, sym, refl, ap, ◌∙◌, inl, inr, arith}
 use Rattle.std.proofs.lemmas.List.{length-set}
 use Rattle.refusal.specs.declared.Refusal.{Refusal}
-use Rattle.card.specs.Meaning.{Meaning, count, at, put, off}
+use Rattle.card.specs.Meaning.{Meaning, count, put, off}
 use Rattle.card.proofs.Refusals.{refused_map}
 use Rattle.card.specs.Calls.{WroteAt, PutOne, PutTwo}
 use Rattle.journal.specs.declared.slip.Pending.{Pending}

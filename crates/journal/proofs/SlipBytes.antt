@@ -27,7 +27,7 @@ field_is s k =
 pub bytes4_is : (x : ℕ) → (x % 256) ∷ (x / 256 % 256) ∷ (x / 65536 % 256) ∷ (x / 16777216 % 256) ∷ [] ≡ le_bytes 4 x
 bytes4_is x = simp div-div-eq-div-mul
 
-reads : (limit kind a b : ℕ) → a < 2 ^ 32 → b < 2 ^ 32 → slip_of limit (slip_bytes kind a b) ≡ said limit kind a b
+pub reads : (limit kind a b : ℕ) → a < 2 ^ 32 → b < 2 ^ 32 → slip_of limit (slip_bytes kind a b) ≡ said limit kind a b
 unfolding slip_bytes
 reads limit kind a b h i = ap (λ z. said limit kind z (le_number (le_bytes 4 b))) (number_bytes 4 a h) ∙ ap (said limit kind a) (number_bytes 4 b i)
 

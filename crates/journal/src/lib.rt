@@ -5,6 +5,8 @@
 // - A spare holds the new bytes of a target.
 // - The slip names the targets.
 // - The flag, while it is raised, makes the put show: reads of a target then find its spare.
+#![tactic(auto)]
+
 ghost use Rattle.std.specs.Borrow.{follows, sem};
 ghost use Rattle.std.specs.Prelude.{◌≡◌, ◌-◌, ◌<◌, ◌≤◌, ◌≢◌, length};
 ghost use Rattle.card.specs.Meaning.{count, at, put};

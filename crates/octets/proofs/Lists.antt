@@ -1,15 +1,15 @@
 -- Lists of bytes: their bounds, and exclusive-or.
 use Rattle.std.proofs.Common.{◌≡◌, ℕ, zero, suc, ◌+◌, ◌<◌, ◌≤◌, List, [], ◌∷◌, ◌++◌, length, get_or, take, drop, sym, refl, ap, ◌∙◌, subst, ap₂, le_of_suc-le-suc, arith, length-append, length-drop, length-take}
 use lib.Bits.{bit_xor, xor_assoc, xor_self, xor_zero_r, xor_lt}
-use Rattle.std.specs.List.{AllByRecursion as All}
+use Rattle.std.specs.List.{AllByRecursion}
 use Rattle.std.proofs.ByRecursion.{All-from_get_or, All-get_or, All-take, All-drop, All-append}
 use Rattle.octets.specs.Little.{Bytes, xored}
 
 -- the two ways to say that each is below 256
-pub all_of : (n : ℕ) (xs : List ℕ) → Bytes n xs → All (λ b. b < 256) xs
+pub all_of : (n : ℕ) (xs : List ℕ) → Bytes n xs → AllByRecursion (λ b. b < 256) xs
 all_of n xs h = All-from_get_or (λ b. b < 256) xs 0 (λ i l. h.1 i (subst (λ (m : ℕ). i < m) h.0 l))
 
-pub of_all : (n : ℕ) (xs : List ℕ) → length xs ≡ n → All (λ b. b < 256) xs → Bytes n xs
+pub of_all : (n : ℕ) (xs : List ℕ) → length xs ≡ n → AllByRecursion (λ b. b < 256) xs → Bytes n xs
 of_all n xs e a = (e, λ k h. All-get_or (λ b. b < 256) xs k 0 (subst (λ (m : ℕ). k < m) (sym e) h) a)
 
 pub xor_twice : (a b : ℕ) → bit_xor (bit_xor a b) b ≡ a
@@ -31,7 +31,7 @@ get_or_xored (x ∷ xs) [] i e h = absurd (let z : ⊥ = omega arith in z)
 get_or_xored (x ∷ xs) (y ∷ ys) zero e h = refl
 get_or_xored (x ∷ xs) (y ∷ ys) (suc i) e h = get_or_xored xs ys i (omega arith) (le_of_suc-le-suc h)
 
-xored_all : (xs ys : List ℕ) → All (λ b. b < 256) xs → All (λ b. b < 256) ys → All (λ b. b < 256) (xored xs ys)
+xored_all : (xs ys : List ℕ) → AllByRecursion (λ b. b < 256) xs → AllByRecursion (λ b. b < 256) ys → AllByRecursion (λ b. b < 256) (xored xs ys)
 xored_all [] ys a b = tt
 xored_all (x ∷ xs) [] a b = tt
 xored_all (x ∷ xs) (y ∷ ys) a b = (xor_lt 8 x y a.0 b.0, xored_all xs ys a.1 b.1)

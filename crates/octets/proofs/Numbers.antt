@@ -1,10 +1,10 @@
 -- A number and its little-endian bytes.
-use Rattle.std.proofs.Common.{◌≡◌, ℕ, zero, suc, ◌+◌, ◌-◌, ◌*◌, ◌/◌, ◌%◌, ◌^◌, ◌<◌, ◌≤◌, List, [], ◌∷◌, ◌++◌, length, get_or, take, drop, sym, refl, ap, ◌∙◌, subst, ap₂, mul_assoc, mul_comm, suc-add, pow-suc, zero-add, div-one, arith, lit<}
+use Rattle.std.proofs.Common.{◌≡◌, ℕ, zero, suc, ◌+◌, ◌*◌, ◌/◌, ◌%◌, ◌^◌, ◌<◌, List, [], ◌∷◌, ◌++◌, length, get_or, take, drop, sym, refl, ap, ◌∙◌, subst, ap₂, mul_assoc, mul_comm, suc-add, pow-suc, zero-add, div-one, arith, lit<}
 use native.Mathlib.Nat.{pow-zero, div-div-eq-div-mul}
 use lib.Arith.{mod-mul}
 use lib.Bits.{bit_xor, xor_mod, xor_shr}
-use Rattle.std.proofs.lemmas.List.{drop_all}
-use Rattle.std.specs.List.{AllByRecursion as All}
+use Rattle.std.proofs.lemmas.List.{drop_all, get_or-drop}
+use Rattle.std.specs.List.{AllByRecursion}
 use Rattle.octets.specs.Little.{Bytes, le_number, le_bytes, xored}
 use Rattle.octets.proofs.Lists.{all_of, of_all}
 
@@ -12,7 +12,7 @@ pub length_le_bytes : (n x : ℕ) → length (le_bytes n x) ≡ n
 length_le_bytes zero x = refl
 length_le_bytes (suc n) x = ap suc (length_le_bytes n (x / 256))
 
-le_bytes_all : (n x : ℕ) → All (λ b. b < 256) (le_bytes n x)
+le_bytes_all : (n x : ℕ) → AllByRecursion (λ b. b < 256) (le_bytes n x)
 le_bytes_all zero x = tt
 le_bytes_all (suc n) x = (omega arith, le_bytes_all n (x / 256))
 
@@ -25,11 +25,11 @@ number_bytes (suc n) x h =
     let p : x / 256 < 256 ^ n = omega (arith, pow-suc 256 n) in
     rw (number_bytes n (x / 256) p) (omega arith)
 
-number_lt_all : (bs : List ℕ) → All (λ b. b < 256) bs → le_number bs < 256 ^ length bs
+number_lt_all : (bs : List ℕ) → AllByRecursion (λ b. b < 256) bs → le_number bs < 256 ^ length bs
 number_lt_all [] a = rw pow-zero (omega arith)
 number_lt_all (b ∷ bs) a = let h = number_lt_all bs a.1 in let e = a.0 in omega (arith, pow-suc 256 (length bs), h)
 
-bytes_number_all : (bs : List ℕ) → All (λ b. b < 256) bs → le_bytes (length bs) (le_number bs) ≡ bs
+bytes_number_all : (bs : List ℕ) → AllByRecursion (λ b. b < 256) bs → le_bytes (length bs) (le_number bs) ≡ bs
 bytes_number_all [] a = refl
 bytes_number_all (b ∷ bs) a =
     let e = a.0 in
@@ -114,3 +114,23 @@ number16_is xs e =
 
 pub bytes16_is : (x : ℕ) → (x % 256) ∷ (x / 256 % 256) ∷ (x / 65536 % 256) ∷ (x / 16777216 % 256) ∷ (x / 4294967296 % 256) ∷ (x / 1099511627776 % 256) ∷ (x / 281474976710656 % 256) ∷ (x / 72057594037927936 % 256) ∷ (x / 18446744073709551616 % 256) ∷ (x / 4722366482869645213696 % 256) ∷ (x / 1208925819614629174706176 % 256) ∷ (x / 309485009821345068724781056 % 256) ∷ (x / 79228162514264337593543950336 % 256) ∷ (x / 20282409603651670423947251286016 % 256) ∷ (x / 5192296858534827628530496329220096 % 256) ∷ (x / 1329227995784915872903807060280344576 % 256) ∷ [] ≡ le_bytes 16 x
 bytes16_is x = simp div-div-eq-div-mul
+
+-- four bytes from place k on, and the four bytes of a number, as arithmetic writes them
+number4 : (s : List ℕ) → get_or s 0 0 + get_or s 1 0 * 256 + get_or s 2 0 * 65536 + get_or s 3 0 * 16777216 ≡ le_number (take 4 s)
+number4 [] = refl
+number4 (a ∷ []) = omega arith
+number4 (a ∷ b ∷ []) = omega arith
+number4 (a ∷ b ∷ c ∷ []) = omega arith
+number4 (a ∷ b ∷ c ∷ d ∷ s) = omega arith
+
+pub number4_is : (s : List ℕ) (k : ℕ) → get_or s k 0 + get_or s (k + 1) 0 * 256 + get_or s (k + 2) 0 * 65536 + get_or s (k + 3) 0 * 16777216 ≡ le_number (take 4 (drop k s))
+number4_is s k =
+    let e0 : get_or (drop k s) 0 0 ≡ get_or s k 0 = get_or-drop k s 0 0 ∙ ap (λ (i : ℕ). get_or s i 0) (let z : k + 0 ≡ k = omega arith in z) in
+    let e1 = get_or-drop k s 1 0 in
+    let e2 = get_or-drop k s 2 0 in
+    let e3 = get_or-drop k s 3 0 in
+    let n = number4 (drop k s) in
+    omega arith
+
+pub bytes4_is : (x : ℕ) → (x % 256) ∷ (x / 256 % 256) ∷ (x / 65536 % 256) ∷ (x / 16777216 % 256) ∷ [] ≡ le_bytes 4 x
+bytes4_is x = simp div-div-eq-div-mul

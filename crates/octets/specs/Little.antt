@@ -1,5 +1,5 @@
 -- Bytes, and numbers as their little-endian bytes.
-use Rattle.std.specs.Prelude.{◌≡◌, ℕ, zero, suc, ◌+◌, ◌*◌, ◌/◌, ◌%◌, ◌<◌, List, [], ◌∷◌, length, bit_xor, slice_index}
+use Rattle.std.specs.Prelude.{◌≡◌, ℕ, zero, suc, ◌+◌, ◌*◌, ◌/◌, ◌%◌, ◌<◌, Bool, true, ◌&&◌, List, [], ◌∷◌, length, ◌==◌, bit_xor, slice_index}
 
 -- a list of n numbers that are each below 256
 abbrev pub Bytes : ℕ → List ℕ → Type 0
@@ -20,3 +20,8 @@ abbrev pub xored : List ℕ → List ℕ → List ℕ
 xored [] ys = []
 xored (x ∷ xs) [] = []
 xored (x ∷ xs) (y ∷ ys) = bit_xor x y ∷ xored xs ys
+
+-- each is v
+abbrev pub all_are : ℕ → List ℕ → Bool
+all_are v [] = true
+all_are v (x ∷ xs) = x == v && all_are v xs

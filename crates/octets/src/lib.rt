@@ -1,6 +1,8 @@
-// Blocks of sixteen bytes as 128-bit numbers, little-endian, and the halves of such a number.
-ghost use Rattle.std.specs.Prelude.{◌≡◌, ℕ, ◌+◌, ◌*◌, ◌/◌, ◌%◌, ◌^◌};
-ghost use Rattle.octets.specs.Little.{le_number, le_bytes};
+// Blocks of sixteen bytes as 128-bit numbers, little-endian, the halves of such a number, and runs of one byte.
+#![tactic(auto)]
+
+ghost use Rattle.std.specs.Prelude.{◌≡◌, ℕ, ◌+◌, ◌*◌, ◌/◌, ◌%◌, ◌^◌, length};
+ghost use Rattle.octets.specs.Little.{Bytes, le_number, le_bytes, all_are};
 
 // The number whose little-endian bytes are the block.
 pub fn block_number(block: &[u8; 16]) -> u128
@@ -35,4 +37,23 @@ pub fn joined(low: u64, high: u64) -> u128
     ensures { result ≡ low + high * 2 ^ 64 }
 {
     (low as u128) | ((high as u128) << 64)
+}
+
+// Whether each byte is v.
+pub fn all_are(s: &[u8], v: u8) -> bool
+    ensures { result ≡ all_are v s.now }
+{
+    for x in s {
+        if *x != v {
+            return false;
+        }
+    }
+    true
+}
+
+// What a slice of bytes holds are bytes: a fact for the proofs of callers that pass the slice on.
+pub fn all_bytes(s: &[u8])
+    ensures { Bytes (length s.now) s.now }
+{
+    let _empty = s.is_empty();
 }

@@ -1,4 +1,6 @@
 // What a drive answers when it will not do what it was asked.
+#![tactic(auto)]
+
 ghost use Rattle.std.specs.Prelude.{◌≡◌, ℕ, ◌≤◌, Some, codes};
 ghost use Rattle.refusal.specs.Numbers.{numbered, Named, NumbersDiffer};
 ghost use Rattle.refusal.specs.Texts.{text as text_of};

@@ -1,6 +1,6 @@
 -- Rotation, over the number of places: what the shifts of a word give, its bound, and that rotating on undoes it.
-use Rattle.std.specs.Prelude.{◌≡◌, ℕ, zero, ◌+◌, ◌-◌, ◌*◌, ◌/◌, ◌%◌, ◌^◌, ◌<◌, bit_or, refl}
-use Rattle.std.proofs.Common.{sym, ap, ap₂, ◌∙◌, subst, add_comm, add-zero, mul_comm, mul-div_cancel, div-add-mod', div-lt_iff_lt-mul, arith, pow_pos, pow-add}
+use Rattle.std.specs.Prelude.{◌≡◌, ℕ, ◌+◌, ◌*◌, ◌/◌, ◌%◌, ◌^◌, ◌<◌, bit_or}
+use Rattle.std.proofs.Common.{sym, ap, ap₂, ◌∙◌, subst, add_comm, add-zero, mul_comm, mul-div_cancel, div-add-mod', div-lt_iff_lt-mul, pow_pos, pow-add}
 use Rattle.std.proofs.Math.Nat.{mul-mod_left}
 use Rattle.std.proofs.Math.Arith.{mod-mul}
 use Rattle.std.specs.Int.Bits.{or_shifted_r}

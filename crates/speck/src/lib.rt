@@ -1,9 +1,12 @@
 // Speck128/256.
+#![tactic(auto)]
+
 ghost use Rattle.std.specs.Prelude.{◌≡◌, ℕ, ◌+◌, ◌<◌, ◌≤◌, List, length, take, drop, slice_index};
 ghost use Rattle.octets.specs.Little.{Bytes, le_number, le_bytes};
 ghost use Rattle.speck.specs.Speck.{pair, pair_of, block_of, keys as keys_of, keys_first, keys_next, round as roundOf, round_back, round_key, speck as speckOf, speck_back};
 ghost use Rattle.speck.specs.Vector.{VectorHolds};
-ghost use Rattle.speck.specs.Laws.{speck_inverse};
+ghost use Rattle.speck.specs.Laws.{inverse_by};
+ghost use Rattle.speck.specs.Rounds.{round_fit, round_back_fit, undone as round_undone, redone as round_redone};
 ghost use Rattle.std.proofs.Common.{rules, arith};
 
 use cipher::Cipher;
@@ -132,7 +135,7 @@ impl Cipher for Speck {
 
     ghost key = { λ c. c.bytes };
 
-    ghost inverse = { speck_inverse };
+    ghost inverse = { inverse_by (record { fit = round_fit; back_fit = round_back_fit; undone = round_undone; redone = round_redone }) };
 
     ghost keyed = { first_of (Prim.search rules, Prim.grind (arith, Self.row.coded.inj)) };
 

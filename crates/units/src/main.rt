@@ -1,4 +1,6 @@
 // Enciphers and deciphers blocks and units, each given by a line of standard input.
+#![tactic(auto)]
+
 ghost use Rattle.std.specs.Prelude.{string_bytes, MatchResult};
 ghost use Rattle.units.specs.Lines.{Wrong};
 ghost use Rattle.units.specs.Served.{Served, Replied, Unread};

@@ -1,10 +1,10 @@
 -- Enciphering and deciphering undo each other, for every cipher that keeps the law.
-use Rattle.std.proofs.Common.{◌≡◌, ℕ, suc, ◌+◌, ◌-◌, ◌*◌, ◌/◌, ◌%◌, ◌<◌, ◌≤◌, Bool, true, false, cond, not, List, length, take, sym, ap, ◌∙◌, arith}
+use Rattle.std.proofs.Common.{◌≡◌, ℕ, suc, ◌+◌, ◌-◌, ◌*◌, ◌/◌, ◌%◌, ◌<◌, ◌≤◌, Bool, true, false, cond, not, List, length, take, ap, ◌∙◌, arith}
 use Rattle.octets.specs.Little.{Bytes}
 use Rattle.octets.proofs.Lists.{part_bytes}
 use Rattle.cipher.specs.Maps.{Maps, Inverse}
 use Rattle.xts.specs.Xts.{doubled, stolen, walked, before_last, first_tweak, encipher, decipher}
-use Rattle.xts.specs.Theorems.{EachUndoesTheOther, Undoes, EnciphersBlockByBlock, DeciphersBlockByBlock, BlockByBlock, tweak}
+use Rattle.xts.specs.Theorems.{EachUndoesTheOther, EnciphersBlockByBlock, DeciphersBlockByBlock, tweak}
 use Rattle.xts.proofs.Undone.{UndoneBy, walked_bytes, walked_undone}
 use Rattle.xts.proofs.Blockwise.{blockwise}
 

@@ -1,6 +1,6 @@
 -- A unit that went through one map of blocks comes back through the map that undoes it, with the tweaks of its end in
 -- the other order.
-use Rattle.std.proofs.Common.{◌≡◌, ℕ, zero, suc, ◌+◌, ◌-◌, ◌*◌, ◌<◌, ◌≤◌, Bool, true, false, cond, not, List, [], ◌∷◌, ◌++◌, length, take, drop, sym, refl, ap, ◌∙◌, subst, ap₂, ⊎_elim, eq-or-lt_of_le, arith, length-append, length-drop, take-append-drop, length-take}
+use Rattle.std.proofs.Common.{◌≡◌, ℕ, zero, suc, ◌+◌, ◌-◌, ◌*◌, ◌<◌, ◌≤◌, Bool, true, false, not, List, ◌++◌, length, take, drop, sym, ap, ◌∙◌, subst, ⊎_elim, eq-or-lt_of_le, arith, length-append, length-drop, take-append-drop, length-take}
 use Rattle.std.proofs.lemmas.List.{take_at, drop_at}
 use Rattle.octets.specs.Little.{Bytes, le_bytes, xored}
 use Rattle.octets.proofs.Lists.{xored_twice, xored_bytes, part_bytes, rest_bytes, append_bytes}

@@ -1,5 +1,5 @@
 -- XTS of IEEE 1619 with ciphertext stealing, over any map of blocks.
-use Rattle.std.specs.Prelude.{ℕ, zero, suc, ◌+◌, ◌-◌, ◌*◌, ◌/◌, ◌%◌, ◌^◌, Bool, true, false, cond, List, [], ◌∷◌, ◌++◌, length, take, drop, replicate, ◌==◌, bit_xor}
+use Rattle.std.specs.Prelude.{ℕ, zero, suc, ◌-◌, ◌*◌, ◌/◌, ◌%◌, ◌^◌, Bool, true, false, cond, List, ◌++◌, length, take, drop, replicate, ◌==◌, bit_xor}
 use Rattle.octets.specs.Little.{le_number, le_bytes, xored}
 use Rattle.cipher.specs.Maps.{Maps}
 

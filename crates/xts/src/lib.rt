@@ -1,4 +1,6 @@
 // XTS over any cipher: units of 16 to 4,096 bytes under a key of 64 bytes, and the check of a key.
+#![tactic(auto)]
+
 ghost use Rattle.std.specs.Prelude.{◌≡◌, ℕ, ◌≤◌, List, ◌++◌, length, take, drop};
 ghost use Rattle.octets.specs.Little.{le_bytes, le_number};
 ghost use Rattle.xts.specs.Xts.{encipher as encipherOf, decipher as decipherOf, check as checkOf};

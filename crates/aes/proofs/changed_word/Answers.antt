@@ -12,14 +12,14 @@ returns-then-i-eq0 c =
     let i = c.args.i in
     let h : i / 8 - 1 < 7 = omega arith in
     let e : i % 8 ≡ 0 = c.if-i-eq0.true in
-    rw e (ap₂ bit_xor (c.sub-word.ensures ∙ ap sub_word (c.rotate-right.ensures ∙ is_turned c.args.w (search rules)))
+    rw e (ap₂ bit_xor (c.sub_word.ensures ∙ ap sub_word (c.rotate_right.ensures ∙ is_turned c.args.w (search rules)))
     (get_or-map-range_with_len constant 0 7 (i / 8 - 1) (i / 8 - 1) 0 h (zero-add (i / 8 - 1))))
 
 pub returns-then-i-eq4 : goal.returns-then-i-eq4
 unfolding changed
 returns-then-i-eq4 c =
     let e : c.args.i % 8 ≡ 4 = c.if-i-eq4.true in
-    rw e c.sub-word-then-i-eq4.ensures
+    rw e c.sub_word-then-i-eq4.ensures
 
 pub returns-else-i-eq4 : goal.returns-else-i-eq4
 unfolding changed

@@ -8,7 +8,7 @@ loop-n-preserved c =
     let v = c.loop-n.invariant in
     let h : c.loop-n.n < length c.loop-n.words = omega arith in
     let lo : 8 ≤ c.loop-n.n = omega arith in
-    (length-set _ _ _ ∙ v.0, expand_next c.args.bytes.now c.loop-n.n c.loop-n.words c.changed-word.result lo h v.1 c.changed-word.ensures)
+    (length-set _ _ _ ∙ v.0, expand_next c.args.bytes.now c.loop-n.n c.loop-n.words c.changed_word.result lo h v.1 c.changed_word.ensures)
 
 pub returns : goal.returns
 returns c =

@@ -11,7 +11,7 @@ pub loop-i-preserved : goal.loop-i-preserved
 loop-i-preserved c =
     let v = c.loop-i.invariant in
     let h : c.loop-i.i < length c.loop-i.words = omega arith in
-    (length-set _ _ _ ∙ v.0, listed_more (word c.args.bytes.now) c.loop-i.words c.loop-i.i c.word-at.result h v.1 c.word-at.ensures)
+    (length-set _ _ _ ∙ v.0, listed_more (word c.args.bytes.now) c.loop-i.words c.loop-i.i c.word_at.result h v.1 c.word_at.ensures)
 
 pub returns : goal.returns
 unfolding expanded

@@ -11,7 +11,7 @@ pub loop-i-preserved : goal.loop-i-preserved
 loop-i-preserved c =
     let v = c.loop-i.invariant in
     let h : c.loop-i.i < length c.loop-i.words = omega arith in
-    (length-set _ _ _ ∙ v.0, listed_more (word c.args.keys.now) c.loop-i.words c.loop-i.i c.unmixed-word.result h v.1 c.unmixed-word.ensures)
+    (length-set _ _ _ ∙ v.0, listed_more (word c.args.keys.now) c.loop-i.words c.loop-i.i c.unmixed_word.result h v.1 c.unmixed_word.ensures)
 
 pub returns : goal.returns
 returns c =

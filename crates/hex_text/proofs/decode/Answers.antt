@@ -4,17 +4,17 @@ use Rattle.hex_text.specs.Texts.{HexDigits, Spells}
 use Rattle.hex_text.proofs.Pairs.{bytes_step, digits_step, spells_all}
 use Rattle.hex_text.proofs.decode.Goals as goal
 
-pub returns-in-default : goal.returns-in-default
-returns-in-default c =
-    let digits = c.as-bytes-digits.result.now in
+pub returns-in_default : goal.returns-in_default
+returns-in_default c =
+    let digits = c.as_bytes-digits.result.now in
     let i = c.loop-i.i in
     let even : length digits % 2 ≡ 0 = omega arith in
-    subst (λ (t : List ℕ). (length t % 2 ≡ 0) × (HexDigits t → ⊥)) c.as-bytes-digits.ensures.value
-    (even, λ all. c.in-default.ensures (all (2 * i) (omega arith), all (2 * i + 1) (omega arith)))
+    subst (λ (t : List ℕ). (length t % 2 ≡ 0) × (HexDigits t → ⊥)) c.as_bytes-digits.ensures.value
+    (even, λ all. c.in_default.ensures (all (2 * i) (omega arith), all (2 * i + 1) (omega arith)))
 
 pub loop-i-preserved : goal.loop-i-preserved
 loop-i-preserved c =
-    let digits = c.as-bytes-digits.result.now in
+    let digits = c.as_bytes-digits.result.now in
     let i = c.loop-i.i in
     let told = c.in-Some.ensures in
     let l : 2 * i + 1 < length digits = omega arith in (
@@ -24,7 +24,7 @@ loop-i-preserved c =
 
 pub returns : goal.returns
 returns c =
-    let digits = c.as-bytes-digits.result.now in
+    let digits = c.as_bytes-digits.result.now in
     let even : length digits % 2 ≡ 0 = omega arith in
-    subst (λ (t : List ℕ). Spells t (vec_items c.loop-i.bytes)) c.as-bytes-digits.ensures.value
+    subst (λ (t : List ℕ). Spells t (vec_items c.loop-i.bytes)) c.as_bytes-digits.ensures.value
     (spells_all digits (vec_items c.loop-i.bytes) c.loop-i.i even c.loop-i-test.false c.loop-i.invariant.0 c.loop-i.invariant.1)

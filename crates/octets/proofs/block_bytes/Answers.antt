@@ -3,4 +3,4 @@ use Rattle.octets.proofs.Numbers.{bytes16_is}
 use Rattle.octets.proofs.block_bytes.Goals as goal
 
 pub returns : goal.returns
-returns c = c.to-le-bytes.ensures ∙ bytes16_is c.args.number
+returns c = c.to_le_bytes.ensures ∙ bytes16_is c.args.number

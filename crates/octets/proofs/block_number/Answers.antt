@@ -5,4 +5,4 @@ use Rattle.octets.proofs.block_number.Goals as goal
 pub returns : goal.returns
 returns c =
     let l : length c.args.block.now ≡ 16 = search rules in
-    c.from-le-bytes.ensures ∙ number16_is c.args.block.now l
+    c.from_le_bytes.ensures ∙ number16_is c.args.block.now l

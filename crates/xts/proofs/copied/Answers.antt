@@ -1,4 +1,4 @@
-use Rattle.std.proofs.Common.{◌≡◌, ℕ, ◌≤◌, ◌⊎◌, List, length, refl, inl, inr, ⊎_elim, arith}
+use Rattle.std.proofs.Common.{◌≡◌, ℕ, ◌≤◌, List, length, refl, inl, inr, ⊎_elim, arith}
 use Rattle.refusal.specs.Demands.{FirstUnmet}
 use Rattle.std.proofs.lemmas.Result.{err_from_is_err_and}
 use Rattle.xts.specs.Calls.{key_demands, call_demands}
@@ -11,9 +11,9 @@ of_key key input output n lo hi same =
     ⊎_elim (λ short. inl short)
     (λ long. inr (long.0, inr ((lo, hi), inr (same, ⊎_elim (λ equal. inl equal) (λ none. absurd none.1) long.1))))
 
-pub returns-in-err-key : goal.returns-in-err-key
-returns-in-err-key g c =
-    let p = err_from_is_err_and c.from-residual.result c.from-residual.ensures.1 in
+pub returns-in_err-key : goal.returns-in_err-key
+returns-in_err-key g c =
+    let p = err_from_is_err_and c.from_residual.result c.from_residual.ensures.1 in
     let lo : 16 ≤ length c.args.input.now = omega arith in
     let hi : length c.args.input.now ≤ 4096 = omega arith in
-    rw (p.1, p.2) (of_key c.args.key.now c.args.input.now c.args.output.now _ lo hi c.if-output-input.false c.in-err-key.ensures, refl)
+    rw (p.1, p.2) (of_key c.args.key.now c.args.input.now c.args.output.now _ lo hi c.if-output-input.false c.in_err-key.ensures, refl)

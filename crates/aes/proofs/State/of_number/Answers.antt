@@ -5,10 +5,10 @@ use Rattle.aes.proofs.State.of_number.Goals as goal
 
 pub returns : goal.returns
 returns c =
-    let low = c.low-half-low.result in
-    let high = c.high-half-high.result in
+    let low = c.low_half-low.result in
+    let high = c.high_half-high.result in
     let two : ℕ → ℕ → _ = λ p q. le_bytes 4 p ++ le_bytes 4 q in
     ap₂ ◌++◌
-    (ap₂ two c.low-word.ensures c.high-word.ensures ∙ sym (halved 4 low) ∙ ap (le_bytes 8) c.low-half-low.ensures)
-    (ap₂ two c.low-word-2.ensures c.high-word-2.ensures ∙ sym (halved 4 high) ∙ ap (le_bytes 8) c.high-half-high.ensures)
+    (ap₂ two c.low_word.ensures c.high_word.ensures ∙ sym (halved 4 low) ∙ ap (le_bytes 8) c.low_half-low.ensures)
+    (ap₂ two c.low_word-2.ensures c.high_word-2.ensures ∙ sym (halved 4 high) ∙ ap (le_bytes 8) c.high_half-high.ensures)
     ∙ sym (halved 8 c.args.block)

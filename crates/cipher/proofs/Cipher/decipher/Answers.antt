@@ -1,5 +1,4 @@
-use mathlib.Core.Path.{◌≡◌, ap, ◌∙◌}
-use Prim.Native.Nat.{ℕ}
+use mathlib.Core.Path.{ap, ◌∙◌}
 use Rattle.octets.specs.Little.{Bytes, le_bytes}
 use Rattle.octets.proofs.Numbers.{bytes_number}
 use Rattle.cipher.proofs.Cipher.decipher.Goals as goal
@@ -9,5 +8,5 @@ returns g c =
     let m = g.Self.Cipher in
     let b = c.args.block.now in
     let whole : Bytes 16 b = (c.told-block, λ i h. c.fits-block i) in
-    c.block-bytes.ensures ∙ c.decipher-number.ensures
-    ∙ ap (m.back (m.key c.args.self.now)) (ap (le_bytes 16) c.block-number.ensures ∙ bytes_number 16 b whole)
+    c.block_bytes.ensures ∙ c.decipher_number.ensures
+    ∙ ap (m.back (m.key c.args.self.now)) (ap (le_bytes 16) c.block_number.ensures ∙ bytes_number 16 b whole)

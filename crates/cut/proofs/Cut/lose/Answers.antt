@@ -1,4 +1,4 @@
-use Rattle.std.proofs.Common.{refl, inl, inr}
+use Rattle.std.proofs.Common.{refl, inr}
 use Rattle.cut.specs.Cuts.{junk}
 use Rattle.cut.proofs.Cut.lose.Goals as goal
 

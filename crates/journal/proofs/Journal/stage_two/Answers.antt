@@ -2,26 +2,26 @@ use Rattle.std.proofs.Common.{arith, rules}
 use Rattle.journal.proofs.Commits.{unseen_down, down_after, stage_two}
 use Rattle.journal.proofs.Journal.stage_two.Goals as goal
 
-pub write-unseen-requires : goal.write-unseen-requires
-write-unseen-requires g c =
-    let r = c.requires.down.room in record { still = unseen_down _ _ _ c.requires.down (omega arith) (omega arith); long = c.requires.x-long }
+pub write_unseen-requires : goal.write_unseen-requires
+write_unseen-requires g c =
+    let r = c.requires.down.room in record { still = unseen_down _ _ _ c.requires.down (omega arith) (omega arith); long = c.requires.x_long }
 
-pub write-unseen-requires-2 : goal.write-unseen-requires-2
-write-unseen-requires-2 g c =
+pub write_unseen-requires-2 : goal.write_unseen-requires-2
+write_unseen-requires-2 g c =
     let r = c.requires.down.room in
-    let d = down_after _ _ _ _ _ c.requires.down (omega arith) c.in-ok-write-unseen.ensures.1 in
-    record { still = unseen_down _ _ _ d (omega arith) (omega arith); long = c.requires.y-long }
+    let d = down_after _ _ _ _ _ c.requires.down (omega arith) c.in_ok-write_unseen.ensures.1 in
+    record { still = unseen_down _ _ _ d (omega arith) (omega arith); long = c.requires.y_long }
 
-pub write-unseen-requires-3 : goal.write-unseen-requires-3
-write-unseen-requires-3 g c =
+pub write_unseen-requires-3 : goal.write_unseen-requires-3
+write_unseen-requires-3 g c =
     let r = c.requires.down.room in
-    let d = down_after _ _ _ _ _ c.requires.down (omega arith) c.in-ok-write-unseen.ensures.1 in
-    let e = down_after _ _ _ _ _ d (omega arith) c.in-ok-write-unseen-2.ensures.1 in
+    let d = down_after _ _ _ _ _ c.requires.down (omega arith) c.in_ok-write_unseen.ensures.1 in
+    let e = down_after _ _ _ _ _ d (omega arith) c.in_ok-write_unseen-2.ensures.1 in
     record { still = unseen_down _ _ _ e (omega arith) (omega arith); long = search rules }
 
 pub returns : goal.returns
 returns g c =
-    let w = c.in-ok-write-unseen.ensures in
-    let z = c.in-ok-write-unseen-2.ensures in
-    stage_two _ _ _ _ c.args.total c.args.a c.args.b c.args.x.now c.args.y.now c.slip-for.result c.write-unseen-3.result c.slip-for.ensures
-    c.requires.down c.requires.first c.requires.second c.requires.apart (omega arith) (omega arith) w.0 w.1 w.2 z.1 z.2 c.write-unseen-3.ensures
+    let w = c.in_ok-write_unseen.ensures in
+    let z = c.in_ok-write_unseen-2.ensures in
+    stage_two _ _ _ _ c.args.total c.args.a c.args.b c.args.x.now c.args.y.now c.slip_for.result c.write_unseen-3.result c.slip_for.ensures
+    c.requires.down c.requires.first c.requires.second c.requires.apart (omega arith) (omega arith) w.0 w.1 w.2 z.1 z.2 c.write_unseen-3.ensures

@@ -11,11 +11,11 @@ returns-then-total-lt5 g c = let e = shown_length (g.C.Card.meaning c.args.self.
 pub returns : goal.returns
 returns g c =
     let m = g.C.Card.meaning in
-    let counted = c.in-ok-total.ensures in
-    let settled = c.in-ok-settle.ensures in
-    let staged = c.in-ok-stage-two.ensures in
+    let counted = c.in_ok-total.ensures in
+    let settled = c.in_ok-settle.ensures in
+    let staged = c.in_ok-stage_two.ensures in
     record {
-      shows = put_two (m c.args.self.now.card) (m c.settle.new.self.card) (m c.stage-two.new.self.card) (m c.commit-two.new.self.card) c.args.a c.args.b c.args.x.now c.args.y.now
-          c.commit-two.result (search rules) (search rules) counted.0 (omega arith) (omega arith) (search rules) (settled.4 ∙ ap journal_of counted.1) staged.2 staged.3 c.commit-two.ensures;
-      settles = idle (m c.stage-two.new.self.card) (m c.commit-two.new.self.card) (Two c.args.a c.args.b) c.commit-two.result c.commit-two.ensures;
+      shows = put_two (m c.args.self.now.card) (m c.settle.new.self.card) (m c.stage_two.new.self.card) (m c.commit_two.new.self.card) c.args.a c.args.b c.args.x.now c.args.y.now
+          c.commit_two.result (search rules) (search rules) counted.0 (omega arith) (omega arith) (search rules) (settled.4 ∙ ap journal_of counted.1) staged.2 staged.3 c.commit_two.ensures;
+      settles = idle (m c.stage_two.new.self.card) (m c.commit_two.new.self.card) (Two c.args.a c.args.b) c.commit_two.result c.commit_two.ensures;
     }

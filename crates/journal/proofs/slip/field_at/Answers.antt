@@ -3,4 +3,4 @@ use Rattle.journal.proofs.SlipBytes.{field_is}
 use Rattle.journal.proofs.slip.field_at.Goals as goal
 
 pub returns : goal.returns
-returns c = c.from-le-bytes.ensures ∙ field_is c.args.s.now c.args.k
+returns c = c.from_le_bytes.ensures ∙ field_is c.args.s.now c.args.k

@@ -6,7 +6,7 @@ use Rattle.speck.proofs.SpeckCipher.encipher_number.Goals as goal
 
 pub loop-i-init : goal.loop-i-init
 unfolding rounds
-loop-i-init c = c.of-block-words.ensures
+loop-i-init c = c.of_block-words.ensures
 
 pub loop-i-preserved : goal.loop-i-preserved
 loop-i-preserved c =

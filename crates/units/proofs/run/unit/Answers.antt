@@ -11,17 +11,17 @@ pub returns-in-Ok : goal.returns-in-Ok
 returns-in-Ok g c =
     let key = c.args.key.now in
     let input = c.args.input.now in
-    let copy : c.as-mut-slice.result.now ≡ input = search rules in
-    let long : length c.pass.new.output ≡ c.in-ok-output.output.len = search rules in
+    let copy : c.as_mut_slice.result.now ≡ input = search rules in
+    let long : length c.pass.new.output ≡ c.in_ok-output.output.len = search rules in
     let told = c.in-Ok.ensures in (
       subst (λ (out : List ℕ). AllMet (call_demands key input out)) copy told.0,
       ◌∙◌ {c = unit_map g.C.Cipher.forward g.C.Cipher.back c.args.direction key c.args.number input}
-          (take_at c.pass.new.output (drop (length c.pass.new.output) c.in-ok-output.output.items) c.in-ok-output.output.len long) told.1,
+          (take_at c.pass.new.output (drop (length c.pass.new.output) c.in_ok-output.output.items) c.in_ok-output.output.len long) told.1,
     )
 
 pub returns-in-Err : goal.returns-in-Err
 returns-in-Err g c =
     let key = c.args.key.now in
     let input = c.args.input.now in
-    let copy : c.as-mut-slice.result.now ≡ input = search rules in
+    let copy : c.as_mut_slice.result.now ≡ input = search rules in
     subst (λ (out : List ℕ). FirstUnmet (call_demands key input out) (numbered c.in-Err.refusal)) copy c.in-Err.ensures.0

@@ -1,7 +1,6 @@
-use Rattle.std.proofs.Common.{◌≡◌}
 use Rattle.xts.specs.Xts.{check}
 use Rattle.xts.proofs.UnitKey.check.Goals as goal
 
 pub returns : goal.returns
 unfolding check
-returns g c = c.seal-unit.ensures
+returns g c = c.seal_unit.ensures

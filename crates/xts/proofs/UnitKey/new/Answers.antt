@@ -1,4 +1,4 @@
-use Rattle.std.proofs.Common.{◌≡◌, ℕ, ◌≤◌, Bool, true, false, List, ◌++◌, length, take, drop, sym, refl, ap, ◌∙◌, ap₂, inl, inr, arith, length-drop, take-append-drop, take_all}
+use Rattle.std.proofs.Common.{◌≡◌, ℕ, Bool, true, false, List, ◌++◌, length, take, drop, sym, refl, ◌∙◌, ap₂, inl, inr, arith, length-drop, take-append-drop, take_all}
 use Rattle.std.proofs.lemmas.Slice.Eq.{slice_eq-Decides}
 use Rattle.xts.proofs.UnitKey.new.Goals as goal
 use Rattle.std.proofs.lemmas.Bool.Decides.{Decides-eqb}
@@ -13,14 +13,14 @@ never b p q = let z : ◌≡◌ {A = ℕ} 0 1 = cc in omega arith
 pub returns-then-eq : goal.returns-then-eq
 returns-then-eq g c =
     let key = c.args.key.now in
-    let l = c.if-key-ne-KEY-LENGTH.false in
+    let l = c.if-key-ne-KEY_LENGTH.false in
     let same = (slice_eq-Decides Decides-eqb c.half-first.result c.half-second.result c.eq.result c.eq.ensures).0 c.if-eq.true in
     inr (l, inl ((λ differ. differ (sym c.half-first.ensures ∙ same ∙ c.half-second.ensures ∙ rest key l)), refl))
 
 pub returns : goal.returns
 returns g c =
     let key = c.args.key.now in
-    let l = c.if-key-ne-KEY-LENGTH.false in
+    let l = c.if-key-ne-KEY_LENGTH.false in
     let differ = (slice_eq-Decides Decides-eqb c.half-first.result c.half-second.result c.eq.result c.eq.ensures).1 in (
       (l, ((λ e. never c.eq.result (differ (c.half-first.ensures ∙ e ∙ sym (c.half-second.ensures ∙ rest key l))) c.if-eq.false), tt)),
       ap₂ ◌++◌ (c.new.ensures ∙ c.half-first.ensures) (c.new-2.ensures ∙ c.half-second.ensures ∙ rest key l) ∙ take-append-drop 32 key,

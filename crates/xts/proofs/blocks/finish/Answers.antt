@@ -1,4 +1,4 @@
-use Rattle.std.proofs.Common.{◌≡◌, ℕ, ◌+◌, ◌<◌, Bool, true, false, cond, not, eqb, List, ◌++◌, length, take, drop, sym, ap, ◌∙◌, arith, ne_eqb}
+use Rattle.std.proofs.Common.{◌≡◌, ℕ, ◌+◌, ◌<◌, Bool, true, false, cond, not, eqb, ◌++◌, length, take, drop, sym, ap, ◌∙◌, arith, ne_eqb}
 use Rattle.octets.specs.Little.{le_bytes}
 use Rattle.xts.specs.Xts.{under, stolen, ending}
 use Rattle.xts.proofs.Steps.{last_whole, last_tail}
@@ -10,7 +10,7 @@ returns-then-unit-at g c =
     let back = not (eqb g.row.BACK 0) in
     let f = cond back m.back m.forward (m.key c.args.c.now) in
     let l : length c.args.unit.now ≡ c.args.at + 16 = omega arith in
-    c.put.ensures ∙ last_whole f back c.args.t c.args.at c.args.unit.now (le_bytes 16 c.under-last.result) l (c.under-last.ensures ∙ ap (under f c.args.t) c.block-at.ensures)
+    c.put.ensures ∙ last_whole f back c.args.t c.args.at c.args.unit.now (le_bytes 16 c.under-last.result) l (c.under-last.ensures ∙ ap (under f c.args.t) c.block_at.ensures)
 
 pub returns-then-this-ne0 : goal.returns-then-this-ne0
 returns-then-this-ne0 g c =

@@ -11,5 +11,5 @@ returns c =
     let l : length (drop at xs) ≤ k = simp length-drop (omega arith) in
     let none : drop k (drop at xs) ≡ [] = drop_all k (drop at xs) l in
     ap (λ (z : List ℕ). take at xs ++ z)
-    (ap (λ (z : List ℕ). c.copy-from-slice.new.self ++ z) none ∙ append-nil _ ∙ c.copy-from-slice.ensures.after
-    ∙ ap₂ take (sub-zero (length xs - at)) c.block-bytes-source.ensures)
+    (ap (λ (z : List ℕ). c.copy_from_slice.new.self ++ z) none ∙ append-nil _ ∙ c.copy_from_slice.ensures.after
+    ∙ ap₂ take (sub-zero (length xs - at)) c.block_bytes-source.ensures)

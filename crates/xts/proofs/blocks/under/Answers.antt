@@ -1,5 +1,4 @@
-use Rattle.std.proofs.Common.{◌≡◌, ℕ, cond, not, eqb, List, ap, ◌∙◌}
-use lib.Bits.{bit_xor}
+use Rattle.std.proofs.Common.{ℕ, cond, not, eqb, List, ap, ◌∙◌}
 use Rattle.octets.specs.Little.{le_bytes, xored}
 use Rattle.octets.proofs.Numbers.{bytes_xor}
 use Rattle.xts.proofs.blocks.under.Goals as goal

@@ -1,4 +1,4 @@
-use Rattle.std.proofs.Common.{◌≡◌, ℕ, suc, ◌+◌, ◌-◌, ◌*◌, ◌/◌, ◌≤◌, cond, not, eqb, List, ◌++◌, length, take, drop, ap, ◌∙◌, arith}
+use Rattle.std.proofs.Common.{◌≡◌, ℕ, suc, ◌+◌, ◌-◌, ◌*◌, ◌/◌, ◌≤◌, cond, not, eqb, ◌++◌, length, take, drop, ap, ◌∙◌, arith}
 use native.Mathlib.Nat.{sub-zero}
 use Rattle.octets.specs.Little.{le_bytes}
 use Rattle.octets.proofs.Numbers.{length_le_bytes}
@@ -19,8 +19,8 @@ loop-j-preserved g c =
     let long : 16 * j + 16 ≤ length c.loop-j.unit = omega arith in
     let less : more - j ≡ suc (more - (j + 1)) = omega arith in
     let on : 16 * (j + 1) ≡ 16 * j + 16 = omega arith in
-    turn f back c.loop-j.t c.doubled-t.result (more - (j + 1)) (more - j) (16 * j) (16 * (j + 1)) c.loop-j.unit c.put.new.unit (le_bytes 16 c.under_block.result)
-    long (length_le_bytes 16 c.under_block.result) (c.under_block.ensures ∙ ap (under f c.loop-j.t) c.block-at.ensures) c.put.ensures c.doubled-t.ensures less on
+    turn f back c.loop-j.t c.doubled-t.result (more - (j + 1)) (more - j) (16 * j) (16 * (j + 1)) c.loop-j.unit c.put.new.unit (le_bytes 16 c.under-block.result)
+    long (length_le_bytes 16 c.under-block.result) (c.under-block.ensures ∙ ap (under f c.loop-j.t) c.block_at.ensures) c.put.ensures c.doubled-t.ensures less on
     ∙ c.loop-j.invariant
 
 pub returns : goal.returns

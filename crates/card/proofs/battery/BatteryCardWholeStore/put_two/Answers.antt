@@ -1,6 +1,5 @@
-use Rattle.std.proofs.Common.{◌≡◌, ℕ, ◌<◌, ◌≤◌, List, length, vec_items, sym, refl, ap, ◌∙◌, inl, inr, ⊎_elim, arith, length-set, rules}
-use Rattle.card.specs.Meaning.{Meaning, count, put}
-use Rattle.card.specs.Buffers.{flat, count_in}
+use Rattle.std.proofs.Common.{vec_items, refl, ap, ◌∙◌, inl, inr, ⊎_elim, arith, rules}
+use Rattle.card.specs.Meaning.{Meaning, put}
 use Rattle.card.specs.Flatness.{flat_count, same_count}
 use Rattle.card.proofs.battery.BatteryCardWholeStore.put_two.Goals as goal
 

@@ -12,4 +12,4 @@ returns c =
     let bs = vec_items c.args.self.now.bytes in
     let e = flat_count bs in
     let h : c.args.n < count_in bs = omega arith in
-    (search rules, refl, omega arith, refl, c.copy-out.ensures ∙ ap (λ s. sector_in s c.args.n) c.as-slice.ensures.value ∙ sym (flat_at bs _ h))
+    (search rules, refl, omega arith, refl, c.copy_out.ensures ∙ ap (λ s. sector_in s c.args.n) c.as_slice.ensures.value ∙ sym (flat_at bs _ h))

@@ -1,4 +1,4 @@
-use Rattle.std.proofs.Common.{◌<◌, vec_items, refl, arith, rules}
+use Rattle.std.proofs.Common.{vec_items, refl, arith, rules}
 use Rattle.card.specs.Flatness.{flat_count}
 use Rattle.card.proofs.flat.FlatCardCard.write.Goals as goal
 

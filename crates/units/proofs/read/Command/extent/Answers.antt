@@ -6,9 +6,9 @@ use Rattle.units.specs.Words.{InDecimal, Missed}
 use Rattle.units.proofs.Wrongs.{exit}
 use Rattle.units.proofs.read.Command.extent.Goals as goal
 
-pub returns-in-err-number-of : goal.returns-in-err-number-of
-returns-in-err-number-of c =
+pub returns-in_err-number_of-in-Unit : goal.returns-in_err-number_of-in-Unit
+returns-in_err-number_of-in-Unit c =
     let ws = c.args.words.now in
-    let e = c.in-err-number-of.field-0.0 in
-    exit (Extends c.args.self ws) (Unnumbered c.args.self ws) c.from-residual.result e c.from-residual.ensures.1
-    (simp c.in-Unit.is (subst (λ (w : List ℕ). Missed Number (InDecimal w) e) c.word-at.ensures c.in-err-number-of.ensures))
+    let e = c.in_err-number_of-in-Unit.field-0.0 in
+    exit (Extends c.args.self ws) (Unnumbered c.args.self ws) c.from_residual.result e c.from_residual.ensures.1
+    (simp c.in-Unit.is (subst (λ (w : List ℕ). Missed Number (InDecimal w) e) c.word_at.ensures c.in_err-number_of-in-Unit.ensures))

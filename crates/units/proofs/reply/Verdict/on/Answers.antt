@@ -6,10 +6,10 @@ use Rattle.units.proofs.reply.Verdict.on.Goals as goal
 
 pub returns-then-eq : goal.returns-then-eq
 returns-then-eq c =
-    let same = slice_eq-Decides Decides-eqb c.as-slice.result.now c.args.expected.now c.eq.result c.eq.ensures in
-    simp c.in-Done.is (sym c.as-slice.ensures.value ∙ same.0 c.if-eq.true)
+    let same = slice_eq-Decides Decides-eqb c.as_slice.result.now c.args.expected.now c.eq.result c.eq.ensures in
+    simp c.in-Done.is (sym c.as_slice.ensures.value ∙ same.0 c.if-eq.true)
 
 pub returns-else-eq : goal.returns-else-eq
 returns-else-eq c =
-    let same = slice_eq-Decides Decides-eqb c.as-slice.result.now c.args.expected.now c.eq.result c.eq.ensures in
-    simp c.in-Done.is (λ e. not_from_Decides c.eq.result same c.if-eq.false (c.as-slice.ensures.value ∙ e))
+    let same = slice_eq-Decides Decides-eqb c.as_slice.result.now c.args.expected.now c.eq.result c.eq.ensures in
+    simp c.in-Done.is (λ e. not_from_Decides c.eq.result same c.if-eq.false (c.as_slice.ensures.value ∙ e))

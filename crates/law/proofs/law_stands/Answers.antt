@@ -1,0 +1,5 @@
+use Rattle.law.proofs.Laws.{law}
+use Rattle.law.proofs.law_stands.Goals as goal
+
+pub returns : goal.returns
+returns c = law

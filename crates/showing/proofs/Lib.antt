@@ -1,0 +1,7 @@
+pub mod Quiet
+pub mod Finding
+pub mod Live
+pub mod Writing
+pub mod Trailers
+pub mod Stepping
+pub mod Cards

@@ -1,0 +1,4 @@
+pub mod Fields
+pub mod ByBytes
+pub mod Places
+pub mod Tests

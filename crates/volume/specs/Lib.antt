@@ -1,0 +1,4 @@
+pub mod States
+pub mod Looks
+pub mod Answers
+pub mod Steadiness

@@ -1,0 +1,292 @@
+// The calls of a volume that are no calls of a card.
+ghost use Rattle.std.specs.Prelude.{◌≡◌, Bool, false, [], length};
+ghost use Rattle.law.specs.Suites.{suite};
+ghost use Rattle.law.specs.Calls.{Loaded, Formatted, Claimed, Begun, Stepped, Finished, HandedIn};
+ghost use Rattle.showing.specs.Showing.{Kept, KeptUnlessLoaded, ShowsFormatted};
+ghost use Rattle.volume.specs.States.{state_of};
+ghost use Rattle.volume.specs.Looks.{Looked};
+ghost use Rattle.volume.specs.Answers.{given_keys, stage_of, verdict, Wiped};
+
+use crate::permits::{Changing, Permit, Resting};
+use crate::state::{Seen, Volume};
+use card::{Card, WholeStore};
+use keys::{Keyring, LoadedKey};
+use refusal::Refusal;
+use trailer::{Stage, Trailer};
+
+impl<K: LoadedKey + Drop, S: WholeStore> Volume<K, S> {
+    // A volume over a store, with no key loaded.
+    pub fn new(store: S) -> Volume<K, S>
+        ensures state { state_of K.LoadedKey.bytes S.Card.meaning result ≡ record { store = S.Card.meaning store; keys = []; out = false } }
+        ensures below { result.store ≡ store }
+    {
+        Volume {
+            store,
+            keys: Keyring::Empty,
+            permit_out: false,
+        }
+    }
+
+    // Reads the trailer afresh; gives none where it is not valid.
+    pub(crate) fn look(&mut self) -> Result<Option<Seen>, Refusal>
+        ensures store { Looked K.LoadedKey.numbered (S.Card.meaning self.old.store) result (S.Card.meaning self.new.store) }
+        ensures keys { self.new.keys ≡ self.old.keys }
+        ensures out { self.new.permit_out ≡ self.old.permit_out }
+    {
+        let total = self.store.count()?;
+        if total == 0 {
+            return Ok(None);
+        }
+        let last = total - 1;
+        let mut sector = [0u8; 520];
+        self.store.read(last, &mut sector)?;
+        match Trailer::decode(&sector, K::own_number(), last) {
+            None => Ok(None),
+            Some(trailer) => Ok(Some(Seen { last, trailer })),
+        }
+    }
+
+    // Takes one or two keys in place of those loaded.
+    pub fn load(&mut self, first: &[u8], second: Option<&[u8]>) -> Result<(), Refusal>
+        ensures does { Loaded (suite K.LoadedKey.numbered K.LoadedKey.forward K.LoadedKey.back) (state_of K.LoadedKey.bytes S.Card.meaning self.old) (given_keys first.now second.entry) result (state_of K.LoadedKey.bytes S.Card.meaning self.new) }
+        ensures shows { KeptUnlessLoaded (suite K.LoadedKey.numbered K.LoadedKey.forward K.LoadedKey.back) (state_of K.LoadedKey.bytes S.Card.meaning self.old) result (state_of K.LoadedKey.bytes S.Card.meaning self.new) }
+    {
+        self.take_keys(first, second)
+    }
+
+    // All lengths are tested before the halves.
+    fn take_keys(&mut self, first: &[u8], second: Option<&[u8]>) -> Result<(), Refusal>
+        ensures { Loaded (suite K.LoadedKey.numbered K.LoadedKey.forward K.LoadedKey.back) (state_of K.LoadedKey.bytes S.Card.meaning self.old) (given_keys first.now second.entry) result (state_of K.LoadedKey.bytes S.Card.meaning self.new) }
+    {
+        if self.permit_out {
+            return Err(Refusal::PermitOut);
+        }
+        match second {
+            None => self.keys = Keyring::One(K::new(first)?),
+            Some(second) => {
+                if first.len() != 64 || second.len() != 64 {
+                    return Err(Refusal::WrongLength);
+                }
+                self.keys = Keyring::Two(K::new(first)?, K::new(second)?);
+            }
+        }
+        Ok(())
+    }
+
+    // Puts a resting trailer under the first key loaded, and nothing else.
+    pub fn format(&mut self, reach: u32, label: &[u8]) -> Result<(), Refusal>
+        ensures does { (took : Bool) × Formatted (suite K.LoadedKey.numbered K.LoadedKey.forward K.LoadedKey.back) (state_of K.LoadedKey.bytes S.Card.meaning self.old) reach label.now took result (state_of K.LoadedKey.bytes S.Card.meaning self.new) }
+        ensures shows { ShowsFormatted (suite K.LoadedKey.numbered K.LoadedKey.forward K.LoadedKey.back) (state_of K.LoadedKey.bytes S.Card.meaning self.old) reach result (state_of K.LoadedKey.bytes S.Card.meaning self.new) }
+    {
+        self.put_fresh(reach, label)
+    }
+
+    fn put_fresh(&mut self, reach: u32, label: &[u8]) -> Result<(), Refusal>
+        ensures { (took : Bool) × Formatted (suite K.LoadedKey.numbered K.LoadedKey.forward K.LoadedKey.back) (state_of K.LoadedKey.bytes S.Card.meaning self.old) reach label.now took result (state_of K.LoadedKey.bytes S.Card.meaning self.new) }
+    {
+        if self.permit_out {
+            return Err(Refusal::PermitOut);
+        }
+        if label.len() != 16 {
+            return Err(Refusal::WrongLength);
+        }
+        let total = self.store.count()?;
+        if reach == 0 || reach >= total {
+            return Err(Refusal::OutOfRange);
+        }
+        let Some(key) = self.keys.first() else {
+            return Err(Refusal::UnfitKey);
+        };
+        let mut own = [0u8; 16];
+        own.copy_from_slice(label);
+        let fresh = Trailer {
+            stage: Stage::Resting,
+            reach,
+            watermark: 0,
+            first: key.check(),
+            second: [0u8; 16],
+            label: own,
+        };
+        self.store
+            .put_one(total - 1, &fresh.encode(K::own_number()))
+    }
+
+    // Hands out a permit by the trailer's stage; it is out until it is handed in.
+    pub fn claim(&mut self) -> Result<Permit, Refusal>
+        ensures does { Claimed (suite K.LoadedKey.numbered K.LoadedKey.forward K.LoadedKey.back) (state_of K.LoadedKey.bytes S.Card.meaning self.old) (stage_of result) (state_of K.LoadedKey.bytes S.Card.meaning self.new) }
+        ensures shows { Kept (suite K.LoadedKey.numbered K.LoadedKey.forward K.LoadedKey.back) (state_of K.LoadedKey.bytes S.Card.meaning self.old) (state_of K.LoadedKey.bytes S.Card.meaning self.new) }
+    {
+        self.hand_out()
+    }
+
+    fn hand_out(&mut self) -> Result<Permit, Refusal>
+        ensures { Claimed (suite K.LoadedKey.numbered K.LoadedKey.forward K.LoadedKey.back) (state_of K.LoadedKey.bytes S.Card.meaning self.old) (stage_of result) (state_of K.LoadedKey.bytes S.Card.meaning self.new) }
+    {
+        if self.permit_out {
+            return Err(Refusal::PermitOut);
+        }
+        let Some(seen) = self.look()? else {
+            return Err(Refusal::InvalidTrailer);
+        };
+        if !self.keys.fits(&seen.trailer) {
+            return Err(Refusal::UnfitKey);
+        }
+        self.permit_out = true;
+        match seen.trailer.stage {
+            Stage::Resting => Ok(Permit::Resting(Resting::issue())),
+            Stage::Changing => Ok(Permit::Changing(Changing::issue())),
+        }
+    }
+
+    // Begins a change to the other loaded key. A refusal gives the permit back.
+    pub fn begin(&mut self, permit: Resting) -> Result<Changing, (Refusal, Resting)>
+        ensures does { (took : Bool) × Begun (suite K.LoadedKey.numbered K.LoadedKey.forward K.LoadedKey.back) (state_of K.LoadedKey.bytes S.Card.meaning self.old) took (verdict result) (state_of K.LoadedKey.bytes S.Card.meaning self.new) }
+        ensures shows { Kept (suite K.LoadedKey.numbered K.LoadedKey.forward K.LoadedKey.back) (state_of K.LoadedKey.bytes S.Card.meaning self.old) (state_of K.LoadedKey.bytes S.Card.meaning self.new) }
+    {
+        match self.put_begun() {
+            Ok(()) => {
+                permit.spend();
+                Ok(Changing::issue())
+            }
+            Err(e) => Err((e, permit)),
+        }
+    }
+
+    fn put_begun(&mut self) -> Result<(), Refusal>
+        ensures { (took : Bool) × Begun (suite K.LoadedKey.numbered K.LoadedKey.forward K.LoadedKey.back) (state_of K.LoadedKey.bytes S.Card.meaning self.old) took result (state_of K.LoadedKey.bytes S.Card.meaning self.new) }
+    {
+        let Some(seen) = self.look()? else {
+            return Err(Refusal::InvalidTrailer);
+        };
+        if !self.keys.fits(&seen.trailer) {
+            return Err(Refusal::UnfitKey);
+        }
+        let old = seen.trailer;
+        if let Stage::Changing = old.stage {
+            return Err(Refusal::WrongStage);
+        }
+        let Some(other) = self.keys.other(&old.first) else {
+            return Err(Refusal::UnfitKey);
+        };
+        let begun = Trailer {
+            stage: Stage::Changing,
+            reach: old.reach,
+            watermark: 0,
+            first: old.first,
+            second: other.check(),
+            label: old.label,
+        };
+        self.store
+            .put_one(seen.last, &begun.encode(K::own_number()))
+    }
+
+    // Moves one data sector to the new key and answers the new watermark. However it leaves once the work buffer had the
+    // right length, that buffer is all zero: it held the sector in clear.
+    pub fn step(&mut self, _permit: &Changing, work: &mut [u8]) -> Result<u32, Refusal>
+        ensures does { (took : Bool) × Stepped (suite K.LoadedKey.numbered K.LoadedKey.forward K.LoadedKey.back) (state_of K.LoadedKey.bytes S.Card.meaning self.old) (length work.old) took result (state_of K.LoadedKey.bytes S.Card.meaning self.new) }
+        ensures wiped { Wiped work.old work.new }
+        ensures shows { Kept (suite K.LoadedKey.numbered K.LoadedKey.forward K.LoadedKey.back) (state_of K.LoadedKey.bytes S.Card.meaning self.old) (state_of K.LoadedKey.bytes S.Card.meaning self.new) }
+    {
+        if work.len() != 520 {
+            return Err(Refusal::WrongLength);
+        }
+        let reply = self.move_one(work);
+        work.copy_from_slice(&[0u8; 520]);
+        reply
+    }
+
+    // The data sector at the watermark, under the new key, and the trailer go in one put.
+    fn move_one(&mut self, work: &mut [u8]) -> Result<u32, Refusal>
+        requires { length work.old ≡ 520 }
+        ensures does { (took : Bool) × Stepped (suite K.LoadedKey.numbered K.LoadedKey.forward K.LoadedKey.back) (state_of K.LoadedKey.bytes S.Card.meaning self.old) 520 took result (state_of K.LoadedKey.bytes S.Card.meaning self.new) }
+        ensures long { length work.new ≡ 520 }
+    {
+        let Some(seen) = self.look()? else {
+            return Err(Refusal::InvalidTrailer);
+        };
+        if !self.keys.fits(&seen.trailer) {
+            return Err(Refusal::UnfitKey);
+        }
+        let old = seen.trailer;
+        if let Stage::Resting = old.stage {
+            return Err(Refusal::WrongStage);
+        }
+        if old.watermark >= old.reach {
+            return Err(Refusal::NothingLeft);
+        }
+        let from = self.keys.having(&old.first).unwrap();
+        let to = self.keys.having(&old.second).unwrap();
+        let place = seen.last - old.reach + old.watermark;
+        self.store.read(place, work)?;
+        from.open(old.watermark as u64, work)?;
+        to.seal(old.watermark as u64, work)?;
+        let next = Trailer {
+            stage: old.stage,
+            reach: old.reach,
+            watermark: old.watermark + 1,
+            first: old.first,
+            second: old.second,
+            label: old.label,
+        };
+        self.store
+            .put_two(place, work, seen.last, &next.encode(K::own_number()))?;
+        Ok(next.watermark)
+    }
+
+    // Ends a change once no sector is left: the new key is the volume's. A refusal gives the permit back.
+    pub fn finish(&mut self, permit: Changing) -> Result<Resting, (Refusal, Changing)>
+        ensures does { (took : Bool) × Finished (suite K.LoadedKey.numbered K.LoadedKey.forward K.LoadedKey.back) (state_of K.LoadedKey.bytes S.Card.meaning self.old) took (verdict result) (state_of K.LoadedKey.bytes S.Card.meaning self.new) }
+        ensures shows { Kept (suite K.LoadedKey.numbered K.LoadedKey.forward K.LoadedKey.back) (state_of K.LoadedKey.bytes S.Card.meaning self.old) (state_of K.LoadedKey.bytes S.Card.meaning self.new) }
+    {
+        match self.put_finished() {
+            Ok(()) => {
+                permit.spend();
+                Ok(Resting::issue())
+            }
+            Err(e) => Err((e, permit)),
+        }
+    }
+
+    fn put_finished(&mut self) -> Result<(), Refusal>
+        ensures { (took : Bool) × Finished (suite K.LoadedKey.numbered K.LoadedKey.forward K.LoadedKey.back) (state_of K.LoadedKey.bytes S.Card.meaning self.old) took result (state_of K.LoadedKey.bytes S.Card.meaning self.new) }
+    {
+        let Some(seen) = self.look()? else {
+            return Err(Refusal::InvalidTrailer);
+        };
+        if !self.keys.fits(&seen.trailer) {
+            return Err(Refusal::UnfitKey);
+        }
+        let old = seen.trailer;
+        if let Stage::Resting = old.stage {
+            return Err(Refusal::WrongStage);
+        }
+        if old.watermark < old.reach {
+            return Err(Refusal::SectorsLeft);
+        }
+        let first = old.second;
+        let second = [0u8; 16];
+        let label = old.label;
+        let finished = Trailer {
+            stage: Stage::Resting,
+            reach: old.reach,
+            watermark: 0,
+            first,
+            second,
+            label,
+        };
+        self.store
+            .put_one(seen.last, &finished.encode(K::own_number()))
+    }
+
+    // Takes back either permit.
+    pub fn hand_in(&mut self, permit: Permit)
+        ensures does { HandedIn (suite K.LoadedKey.numbered K.LoadedKey.forward K.LoadedKey.back) (state_of K.LoadedKey.bytes S.Card.meaning self.old) (state_of K.LoadedKey.bytes S.Card.meaning self.new) }
+        ensures shows { Kept (suite K.LoadedKey.numbered K.LoadedKey.forward K.LoadedKey.back) (state_of K.LoadedKey.bytes S.Card.meaning self.old) (state_of K.LoadedKey.bytes S.Card.meaning self.new) }
+    {
+        match permit {
+            Permit::Resting(p) => p.spend(),
+            Permit::Changing(p) => p.spend(),
+        }
+        self.permit_out = false;
+    }
+}
