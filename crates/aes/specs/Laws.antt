@@ -100,7 +100,7 @@ aes_inverse = record {
 unmixed_at : (ks : List ℕ) (i : ℕ) → i < 60 → le_bytes 4 (at (unmixed_keys ks) i) ≡ times mix_back (le_bytes 4 (at ks i))
 unmixed_at ks i h = ap (le_bytes 4) (listed_at 60 (λ i. unmixed (at ks i)) i h) ∙ unmixed_bytes (at ks i)
 
-key_unmixed : (ks : List ℕ) (r : ℕ) → r < 15 → round_key (unmixed_keys ks) r ≡ mix_columns_back (round_key ks r)
+pub key_unmixed : (ks : List ℕ) (r : ℕ) → r < 15 → round_key (unmixed_keys ks) r ≡ mix_columns_back (round_key ks r)
 key_unmixed ks r h =
     ap₂ ◌++◌ (unmixed_at ks (4 * r) (omega arith))
     (ap₂ ◌++◌ (unmixed_at ks (4 * r + 1) (omega arith)) (ap₂ ◌++◌ (unmixed_at ks (4 * r + 2) (omega arith)) (unmixed_at ks (4 * r + 3) (omega arith))))

@@ -1,35 +1,23 @@
 // AES-256 on lookup tables: a block stays in four words, and deciphering is the equivalent inverse cipher of FIPS 197.
 #![tactic(auto)]
 
-ghost use Rattle.std.specs.Prelude.{◌≡◌, ◌+◌, ◌*◌, ◌/◌, ◌%◌, ◌^◌, ◌<◌, ◌≤◌, length, take, drop};
+ghost use Rattle.std.specs.Prelude.{◌≡◌, ℕ, List, ◌+◌, ◌*◌, ◌<◌, ◌≤◌, length, map, take, drop};
 ghost use Rattle.octets.specs.Little.{Bytes, le_bytes, le_number, xored};
-ghost use Rattle.aes.specs.Aes.{sub_bytes, sub_bytes_back, shift_rows, shift_rows_back, mix_columns_back, changed, expanded, schedule, round_key, round_with, ciphered, ciphered_back, aes, aes_back};
-ghost use Rattle.aes.specs.Words.{bytes_of, unmixed_keys};
+ghost use Rattle.aes_tables.specs.Columns.{at};
+ghost use Rattle.aes.specs.Aes.{four, mix_columns_back, changed, expanded, schedule, round_key, aes, aes_back};
+ghost use Rattle.aes.specs.Words.{bytes_of, mirrored_bytes, KeysAre, back_key};
+ghost use Rattle.aes.specs.Passes.{round_by, last_by, passed_by};
 ghost use Rattle.aes.specs.Vector.{VectorHolds};
 ghost use Rattle.aes.specs.Laws.{aes_inverse};
 ghost use Rattle.std.proofs.Common.{rules, arith};
 
+use aes_tables::{Back, Forward, Way, column, last_column, sub_word, unmixed_word};
 use cipher::Cipher;
+use std::array;
+use std::ops::BitXor;
 
-fn low_word(x: u64) -> u32
-    ensures { result ≡ x % 2 ^ 32 }
-{
-    (x & 0xffff_ffff) as u32
-}
-
-fn high_word(x: u64) -> u32
-    ensures { result ≡ x / 2 ^ 32 }
-{
-    (x >> 32) as u32
-}
-
-fn two_words(low: u32, high: u32) -> u64
-    ensures { result ≡ low + high * 2 ^ 32 }
-{
-    (low as u64) | ((high as u64) << 32)
-}
-
-// The four columns of a state or of a round key.
+// The four columns of a state or of a round key. No Model: the rounds read the four words, and clauses say their bytes by
+// a function over the fields, `bytes_of`.
 #[derive(Clone, Copy)]
 struct State {
     a: u32,
@@ -38,29 +26,42 @@ struct State {
     d: u32,
 }
 
-impl State {
-    fn of_number(block: u128) -> State
-        ensures { bytes_of result ≡ le_bytes 16 block }
-    {
-        let low = octets::low_half(block);
-        let high = octets::high_half(block);
+impl From<[u32; 4]> for State {
+    ghost from_gives = { λ words s. bytes_of s ≡ four (at words 0) (at words 1) (at words 2) (at words 3) };
+
+    fn from(words: [u32; 4]) -> State {
+        let [a, b, c, d] = words;
+        State { a, b, c, d }
+    }
+}
+
+impl From<u128> for State {
+    ghost from_gives = { λ block s. bytes_of s ≡ le_bytes 16 block };
+
+    fn from(block: u128) -> State {
         State {
-            a: low_word(low),
-            b: high_word(low),
-            c: low_word(high),
-            d: high_word(high),
+            a: (block & 0xffff_ffff) as u32,
+            b: (block >> 32 & 0xffff_ffff) as u32,
+            c: (block >> 64 & 0xffff_ffff) as u32,
+            d: (block >> 96) as u32,
         }
     }
+}
 
-    fn number(self) -> u128
-        ensures { le_bytes 16 result ≡ bytes_of self }
-    {
-        octets::joined(two_words(self.a, self.b), two_words(self.c, self.d))
+impl From<State> for u128 {
+    ghost from_gives = { λ s block. le_bytes 16 block ≡ bytes_of s };
+
+    fn from(s: State) -> u128 {
+        u128::from(s.a) | u128::from(s.b) << 32 | u128::from(s.c) << 64 | u128::from(s.d) << 96
     }
+}
 
-    fn added(self, key: State) -> State
-        ensures { bytes_of result ≡ xored (bytes_of self) (bytes_of key) }
-    {
+impl BitXor for State {
+    type Output = State;
+
+    ghost bitxor_gives = { λ s key sum. bytes_of sum ≡ xored (bytes_of s) (bytes_of key) };
+
+    fn bitxor(self, key: State) -> State {
         State {
             a: self.a ^ key.a,
             b: self.b ^ key.b,
@@ -68,64 +69,55 @@ impl State {
             d: self.d ^ key.d,
         }
     }
-
-    fn full_round(self, key: State) -> State
-        ensures { bytes_of result ≡ round_with (bytes_of self) (bytes_of key) }
-    {
-        State {
-            a: aes_tables::column(self.a, self.b, self.c, self.d, key.a),
-            b: aes_tables::column(self.b, self.c, self.d, self.a, key.b),
-            c: aes_tables::column(self.c, self.d, self.a, self.b, key.c),
-            d: aes_tables::column(self.d, self.a, self.b, self.c, key.d),
-        }
-    }
-
-    fn last_round(self, key: State) -> State
-        ensures { bytes_of result ≡ xored (shift_rows (sub_bytes (bytes_of self))) (bytes_of key) }
-    {
-        State {
-            a: aes_tables::last_column(self.a, self.b, self.c, self.d, key.a),
-            b: aes_tables::last_column(self.b, self.c, self.d, self.a, key.b),
-            c: aes_tables::last_column(self.c, self.d, self.a, self.b, key.c),
-            d: aes_tables::last_column(self.d, self.a, self.b, self.c, key.d),
-        }
-    }
-
-    // A round of the equivalent inverse cipher: the key is added after the mixing, so it is to be unmixed itself.
-    fn full_round_back(self, key: State) -> State
-        ensures { bytes_of result ≡ xored (mix_columns_back (sub_bytes_back (shift_rows_back (bytes_of self)))) (bytes_of key) }
-    {
-        State {
-            a: aes_tables::column_back(self.a, self.d, self.c, self.b, key.a),
-            b: aes_tables::column_back(self.b, self.a, self.d, self.c, key.b),
-            c: aes_tables::column_back(self.c, self.b, self.a, self.d, key.c),
-            d: aes_tables::column_back(self.d, self.c, self.b, self.a, key.d),
-        }
-    }
-
-    fn last_round_back(self, key: State) -> State
-        ensures { bytes_of result ≡ xored (sub_bytes_back (shift_rows_back (bytes_of self))) (bytes_of key) }
-    {
-        State {
-            a: aes_tables::last_column_back(self.a, self.d, self.c, self.b, key.a),
-            b: aes_tables::last_column_back(self.b, self.a, self.d, self.c, key.b),
-            c: aes_tables::last_column_back(self.c, self.b, self.a, self.d, key.c),
-            d: aes_tables::last_column_back(self.d, self.c, self.b, self.a, key.d),
-        }
-    }
 }
 
-// The word whose four bytes begin at `start`.
-fn word_at(bytes: &[u8], start: usize) -> u32
-    requires { start + 4 ≤ length bytes.now }
-    ensures { result ≡ le_number (take 4 (drop start bytes.now)) }
-{
-    u32::from_le_bytes([
-        bytes[start],
-        bytes[start + 1],
-        bytes[start + 2],
-        bytes[start + 3],
-    ])
+impl State {
+    // The columns in the other order from the first on. To turn the rows of such a state left is to turn those of the
+    // state right, so one round serves both ways.
+    fn mirrored(self) -> State
+        ensures { bytes_of result ≡ mirrored_bytes (bytes_of self) }
+    {
+        State {
+            a: self.a,
+            b: self.d,
+            c: self.c,
+            d: self.b,
+        }
+    }
+
+    fn unmixed(self) -> State
+        ensures { bytes_of result ≡ mix_columns_back (bytes_of self) }
+    {
+        State {
+            a: unmixed_word(self.a),
+            b: unmixed_word(self.b),
+            c: unmixed_word(self.c),
+            d: unmixed_word(self.d),
+        }
+    }
+
+    // Each column takes the four words in another order, so they are passed one by one.
+    fn full_round<W: Way>(self, key: State) -> State
+        ensures { bytes_of result ≡ round_by W.substitution W.matrix (bytes_of self) (bytes_of key) }
+    {
+        State {
+            a: column::<W>(self.a, self.b, self.c, self.d, key.a),
+            b: column::<W>(self.b, self.c, self.d, self.a, key.b),
+            c: column::<W>(self.c, self.d, self.a, self.b, key.c),
+            d: column::<W>(self.d, self.a, self.b, self.c, key.d),
+        }
+    }
+
+    fn last_round<W: Way>(self, key: State) -> State
+        ensures { bytes_of result ≡ last_by W.substitution (bytes_of self) (bytes_of key) }
+    {
+        State {
+            a: last_column::<W>(self.a, self.b, self.c, self.d, key.a),
+            b: last_column::<W>(self.b, self.c, self.d, self.a, key.b),
+            c: last_column::<W>(self.c, self.d, self.a, self.b, key.c),
+            d: last_column::<W>(self.d, self.a, self.b, self.c, key.d),
+        }
+    }
 }
 
 // The first bytes of the round constants; the other three are 0.
@@ -137,94 +129,92 @@ fn changed_word(i: usize, w: u32) -> u32
     ensures { result ≡ changed i w }
 {
     if i % 8 == 0 {
-        aes_tables::sub_word(w.rotate_right(8)) ^ CONSTANTS[i / 8 - 1]
+        sub_word(w.rotate_right(8)) ^ CONSTANTS[i / 8 - 1]
     } else if i % 8 == 4 {
-        aes_tables::sub_word(w)
+        sub_word(w)
     } else {
         w
     }
 }
 
-// The schedule with no more than its first eight words made, which are the key.
-fn first_words(bytes: &[u8; 32]) -> [u32; 60]
-    ensures { take 8 result ≡ expanded bytes.now 0 }
+fn key_words(bytes: &[u8; 32]) -> [u32; 8]
+    ensures { result ≡ expanded bytes.now 0 }
 {
-    let mut words = [0u32; 60];
-    for i in 0..8 {
-        words[i] = word_at(bytes, 4 * i);
-    }
-    words
+    let (words, _) = bytes.as_chunks::<4>();
+    array::from_fn(|i| u32::from_le_bytes(words[i]))
 }
 
 fn expand(bytes: &[u8; 32]) -> [u32; 60]
     ensures { result ≡ schedule bytes.now }
 {
-    let mut words = first_words(bytes);
+    let mut words = [0u32; 60];
+    words[..8].copy_from_slice(&key_words(bytes));
+    // The index stays: the standard makes word n of words n - 8 and n - 1 of the array that is being filled, which no
+    // iterator lends beside the word that it writes.
     for n in 8..60 {
         words[n] = words[n - 8] ^ changed_word(n, words[n - 1]);
     }
     words
 }
 
-// The schedule unmixed, for the way back; its first and last round keys are not used.
-fn unmix(keys: &[u32; 60]) -> [u32; 60]
-    ensures { result ≡ unmixed_keys keys.now }
-{
-    let mut words = [0u32; 60];
-    for i in 0..60 {
-        words[i] = aes_tables::unmixed_word(keys[i]);
-    }
-    words
+// The round keys in the order in which a pass takes them, those of the full rounds apart.
+#[derive(Clone, Copy)]
+struct RoundKeys {
+    first: State,
+    full: [State; 13],
+    last: State,
 }
 
-fn key_of(keys: &[u32; 60], r: usize) -> State
-    requires { r < 15 }
-    ensures { bytes_of result ≡ round_key keys.now r }
-{
-    State {
-        a: keys[4 * r],
-        b: keys[4 * r + 1],
-        c: keys[4 * r + 2],
-        d: keys[4 * r + 3],
+impl RoundKeys {
+    fn new(words: &[u32; 60]) -> RoundKeys
+        ensures { KeysAre result (round_key words.now) }
+    {
+        let (keys, _) = words.as_chunks::<4>();
+        RoundKeys {
+            first: State::from(keys[0]),
+            full: array::from_fn(|i| State::from(keys[i + 1])),
+            last: State::from(keys[14]),
+        }
+    }
+
+    // The keys of the equivalent inverse cipher, for mirrored states.
+    fn back(&self) -> RoundKeys
+        ensures { (k : List ℕ) → KeysAre self.now (round_key k) → KeysAre result (back_key k) }
+    {
+        RoundKeys {
+            first: self.last.mirrored(),
+            full: array::from_fn(|i| self.full[12 - i].unmixed().mirrored()),
+            last: self.first.mirrored(),
+        }
+    }
+
+    // A block through all rounds of a way.
+    fn pass<W: Way>(&self, block: State) -> State
+        ensures { (key : ℕ → List ℕ) → KeysAre self.now key → bytes_of result ≡ passed_by W.substitution W.matrix key (bytes_of block) }
+    {
+        let mut s = block ^ self.first;
+        for key in &self.full {
+            s = s.full_round::<W>(*key);
+        }
+        s.last_round::<W>(self.last)
     }
 }
 
-fn enciphered(keys: &[u32; 60], block: u128) -> u128
-    ensures { le_bytes 16 result ≡ ciphered keys.now (le_bytes 16 block) }
-{
-    let mut s = State::of_number(block).added(key_of(keys, 0));
-    for r in 0..13 {
-        s = s.full_round(key_of(keys, r + 1));
-    }
-    s.last_round(key_of(keys, 14)).number()
-}
-
-fn deciphered(keys: &[u32; 60], back_keys: &[u32; 60], block: u128) -> u128
-    requires { back_keys.now ≡ unmixed_keys keys.now }
-    ensures { le_bytes 16 result ≡ ciphered_back keys.now (le_bytes 16 block) }
-{
-    let mut s = State::of_number(block).added(key_of(keys, 14));
-    for r in (0..13).rev() {
-        s = s.full_round_back(key_of(back_keys, r + 1));
-    }
-    s.last_round_back(key_of(keys, 0)).number()
-}
-
-// A key with its schedule, as it stands and unmixed, both made once.
+// A key with its round keys for both ways, made once.
 #[derive(Drop)]
 pub struct Aes {
     bytes: [u8; 32],
-    keys: [u32; 60],
-    back_keys: [u32; 60],
+    keys: RoundKeys,
+    back_keys: RoundKeys,
     ghost sound: { Bytes 32 bytes },
-    ghost scheduled: { keys ≡ schedule bytes },
-    ghost turned: { back_keys ≡ unmixed_keys keys },
+    ghost scheduled: { KeysAre keys (round_key (schedule bytes)) },
+    ghost turned: { KeysAre back_keys (back_key (schedule bytes)) },
 }
 
 impl Cipher for Aes {
     const NUMBER: u8 = 1;
 
-    ghost numbered = { 1 };
+    ghost NUMBER = { 1 };
 
     ghost forward = { aes };
 
@@ -232,36 +222,35 @@ impl Cipher for Aes {
 
     ghost key = { λ c. c.bytes };
 
+    ghost byte = { Prim.search rules };
+
     ghost inverse = { aes_inverse };
 
     ghost keyed = { first_of (Prim.search rules, Prim.grind (arith, Self.row.coded.inj)) };
 
-    fn own_number() -> u8 {
-        Self::NUMBER
-    }
-
     fn new(bytes: &[u8; 32]) -> Aes {
-        let keys = expand(bytes);
-        let back_keys = unmix(&keys);
+        let keys = RoundKeys::new(&expand(bytes));
         Aes {
             bytes: *bytes,
             keys,
-            back_keys,
+            back_keys: keys.back(),
         }
     }
 
     fn encipher_number(&self, block: u128) -> u128 {
-        enciphered(&self.keys, block)
+        u128::from(self.keys.pass::<Forward>(State::from(block)))
     }
 
     fn decipher_number(&self, block: u128) -> u128 {
-        deciphered(&self.keys, &self.back_keys, block)
+        u128::from(
+            self.back_keys
+                .pass::<Back>(State::from(block).mirrored())
+                .mirrored(),
+        )
     }
 }
 
 // The example of FIPS 197 is met by the definition that the cipher is proved against.
-pub fn vector_stands() -> u8
+pub fn vector_stands()
     ensures { VectorHolds }
-{
-    0
-}
+{}

@@ -1,9 +1,11 @@
 -- Multiplication in the field is linear, and the two matrices undo each other.
-use Rattle.std.proofs.Common.{◌≡◌, ℕ, zero, suc, ◌+◌, ◌-◌, ◌*◌, ◌/◌, ◌%◌, ◌<◌, Bool, cond, T, eqb, List, sym, refl, ap, ◌∙◌, ap₂, add-zero, one-mul, zero-mul, arith, eqb→eq}
+use Rattle.std.proofs.Common.{◌≡◌, ℕ, zero, suc, ◌+◌, ◌-◌, ◌*◌, ◌/◌, ◌%◌, ◌<◌, cond, eqb, List, [], map, get_or, sym, refl, ap, ◌∙◌, ap₂, add-zero, one-mul, zero-add, zero-mul, arith}
+use Rattle.std.specs.List.{range_with_len}
+use Rattle.std.proofs.lemmas.List.FromFn.{get_or-map-range_with_len}
 use lib.Bits.{bit_xor, xor_assoc, xor_self, xor_zero_r, xor_zero_l, xor_comm, xor_lt, xor_block, xor_shr}
 use Rattle.aes_tables.specs.Field.{times2, mul_low, mul}
-use Rattle.aes_tables.specs.Columns.{at, sum4, entry, row_times, mix, mix_back}
-use Rattle.aes_tables.proofs.Tests.{below, each, byte_bound}
+use Rattle.aes_tables.specs.Columns.{at, each_byte, sum4, entry, row_times, mix, mix_back}
+use Rattle.aes_tables.proofs.Tests.{byte_entry, byte_bound}
 
 swap : (a b c d : ℕ) → bit_xor (bit_xor a b) (bit_xor c d) ≡ bit_xor (bit_xor a c) (bit_xor b d)
 swap a b c d =
@@ -33,7 +35,8 @@ times_bit (suc zero) a b h = simp one-mul
 times_bit (suc (suc p)) a b h = absurd (let z : ⊥ = omega arith in z)
 
 times2_lt : (a : ℕ) → a < 256 → times2 a < 256
-times2_lt = byte_bound times2 tt
+unfolding each_byte
+times2_lt = byte_bound times2 refl
 
 mul_low_xor : (n a b c : ℕ) → a < 256 → b < 256 → mul_low n (bit_xor a b) c ≡ bit_xor (mul_low n a c) (mul_low n b c)
 mul_low_xor zero a b c h k = refl
@@ -79,20 +82,20 @@ abbrev pub Bounded : List ℕ → Type 0
 Bounded cs = (k a : ℕ) → a < 256 → mul a (at cs k) < 256
 
 pub mix_bounded : Bounded mix
-unfolding mul
-mix_bounded zero = byte_bound (λ a. mul a 2) tt
-mix_bounded (suc zero) = byte_bound (λ a. mul a 3) tt
-mix_bounded (suc (suc zero)) = byte_bound (λ a. mul a 1) tt
-mix_bounded (suc (suc (suc zero))) = byte_bound (λ a. mul a 1) tt
-mix_bounded (suc (suc (suc (suc k)))) = byte_bound (λ a. mul a 0) tt
+unfolding each_byte mul
+mix_bounded zero = byte_bound (λ a. mul a 2) refl
+mix_bounded (suc zero) = byte_bound (λ a. mul a 3) refl
+mix_bounded (suc (suc zero)) = byte_bound (λ a. mul a 1) refl
+mix_bounded (suc (suc (suc zero))) = byte_bound (λ a. mul a 1) refl
+mix_bounded (suc (suc (suc (suc k)))) = byte_bound (λ a. mul a 0) refl
 
 pub mix_back_bounded : Bounded mix_back
-unfolding mul
-mix_back_bounded zero = byte_bound (λ a. mul a 14) tt
-mix_back_bounded (suc zero) = byte_bound (λ a. mul a 11) tt
-mix_back_bounded (suc (suc zero)) = byte_bound (λ a. mul a 13) tt
-mix_back_bounded (suc (suc (suc zero))) = byte_bound (λ a. mul a 9) tt
-mix_back_bounded (suc (suc (suc (suc k)))) = byte_bound (λ a. mul a 0) tt
+unfolding each_byte mul
+mix_back_bounded zero = byte_bound (λ a. mul a 14) refl
+mix_back_bounded (suc zero) = byte_bound (λ a. mul a 11) refl
+mix_back_bounded (suc (suc zero)) = byte_bound (λ a. mul a 13) refl
+mix_back_bounded (suc (suc (suc zero))) = byte_bound (λ a. mul a 9) refl
+mix_back_bounded (suc (suc (suc (suc k)))) = byte_bound (λ a. mul a 0) refl
 
 pub row_lt : (cs : List ℕ) → Bounded cs → (r a b c d : ℕ) → a < 256 → b < 256 → c < 256 → d < 256 → row_times cs r a b c d < 256
 row_lt cs small r a b c d ha hb hc hd =
@@ -115,22 +118,29 @@ product_row cs ds small r a b c d ha hb hc hd =
     sum4_ap (part 0) (part 1) (part 2) (part 3)
     ∙ turned (t 0 0 a) (t 0 1 b) (t 0 2 c) (t 0 3 d) (t 1 0 a) (t 1 1 b) (t 1 2 c) (t 1 3 d) (t 2 0 a) (t 2 1 b) (t 2 2 c) (t 2 3 d) (t 3 0 a) (t 3 1 b) (t 3 2 c) (t 3 3 d)
 
-all_met : (cs ds : List ℕ) → Bool
-all_met cs ds = below (λ r. below (λ j. below (λ a. eqb (met cs ds r j a) (cond (eqb r j) a 0)) 256) 4) 4
-
 -- what two matrices ask that undo each other
 abbrev pub Meet : List ℕ → List ℕ → Type 0
 Meet cs ds = (r j a : ℕ) → r < 4 → j < 4 → a < 256 → met cs ds r j a ≡ cond (eqb r j) a 0
 
-meet_by : (cs ds : List ℕ) → T (all_met cs ds) → Meet cs ds
-unfolding all_met
-meet_by cs ds t r j a hr hj ha =
-    eqb→eq (met cs ds r j a) (cond (eqb r j) a 0) (each (λ a. eqb (met cs ds r j a) (cond (eqb r j) a 0)) 256 (each (λ j. below (λ a. eqb (met cs ds r j a) (cond (eqb r j) a 0)) 256) 4 (each (λ r. below (λ j. below (λ a. eqb (met cs ds r j a) (cond (eqb r j) a 0)) 256) 4) 4 t r hr) j hj) a ha)
+-- what f makes of each row, place and byte
+tabled : (ℕ → ℕ → ℕ → ℕ) → List (List (List ℕ))
+tabled f = map (λ r. map (λ j. each_byte (f r j)) (range_with_len 0 4)) (range_with_len 0 4)
+
+tabled_at : (f : ℕ → ℕ → ℕ → ℕ) (r j a : ℕ) → r < 4 → j < 4 → a < 256 → get_or (get_or (get_or (tabled f) r []) j []) a 0 ≡ f r j a
+unfolding tabled
+tabled_at f r j a hr hj ha =
+    ap (λ (t : List (List ℕ)). get_or (get_or t j []) a 0) (get_or-map-range_with_len (λ (i : ℕ). map (λ (k : ℕ). each_byte (f i k)) (range_with_len 0 4)) 0 4 r r [] hr (zero-add r))
+    ∙ ap (λ (t : List ℕ). get_or t a 0) (get_or-map-range_with_len (λ (k : ℕ). each_byte (f r k)) 0 4 j j [] hj (zero-add j)) ∙ byte_entry (f r j) a 0 ha
+
+meet_by : (cs ds : List ℕ) → tabled (met cs ds) ≡ tabled (λ r j a. cond (eqb r j) a 0) → Meet cs ds
+meet_by cs ds e r j a hr hj ha =
+    sym (tabled_at (met cs ds) r j a hr hj ha) ∙ ap (λ (t : List (List (List ℕ))). get_or (get_or (get_or t r []) j []) a 0) e
+    ∙ tabled_at (λ (r : ℕ) (j : ℕ) (a : ℕ). cond (eqb r j) a 0) r j a hr hj ha
 
 pub mix_met : Meet mix_back mix
-unfolding all_met mul
-mix_met = meet_by mix_back mix tt
+unfolding tabled each_byte mul
+mix_met = meet_by mix_back mix refl
 
 pub mix_back_met : Meet mix mix_back
-unfolding all_met mul
-mix_back_met = meet_by mix mix_back tt
+unfolding tabled each_byte mul
+mix_back_met = meet_by mix mix_back refl

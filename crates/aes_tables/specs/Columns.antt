@@ -1,6 +1,7 @@
 -- Columns of four bytes, the two mixing matrices of FIPS 197, and words of 32 bits as columns.
 -- A word is the number whose little-endian bytes are the column, from the top.
 use Rattle.std.specs.Prelude.{ℕ, ◌+◌, ◌-◌, ◌/◌, ◌%◌, List, [], ◌∷◌, map, bit_xor, slice_index}
+use Rattle.std.specs.List.{range_with_len}
 use Rattle.octets.specs.Little.{le_bytes, le_number}
 use Rattle.aes_tables.specs.Field.{mul, sub}
 
@@ -44,6 +45,14 @@ mix_back = 14 ∷ 11 ∷ 13 ∷ 9 ∷ []
 -- the column that four words bring to a shifted state: f of byte 0 of the first, of byte 1 of the second, and so on
 abbrev pub gathered : (ℕ → ℕ) → ℕ → ℕ → ℕ → ℕ → List ℕ
 gathered f a b c d = f (a % 256) ∷ f (b / 256 % 256) ∷ f (c / 256 / 256 % 256) ∷ f (d / 256 / 256 / 256 % 256) ∷ []
+
+-- f of each byte
+unfoldable pub each_byte : {A : Type 0} → (ℕ → A) → List A
+each_byte f = map f (range_with_len 0 256)
+
+-- for each place of a column, what each byte, taken through f, adds there to the column that the matrix makes
+unfoldable pub column_tables : List ℕ → (ℕ → ℕ) → List (List (List ℕ))
+column_tables cs f = map (λ j. each_byte (λ a. spread cs j (f a))) (range_with_len 0 4)
 
 -- SubWord: each byte of a word substituted
 abbrev pub sub_word : ℕ → ℕ

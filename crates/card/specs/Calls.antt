@@ -27,6 +27,11 @@ abbrev pub PoweredUp : Meaning → Meaning → Result (Unit {0}) Refusal → Typ
 PoweredUp m n (Ok _) = n ≡ on m
 PoweredUp m n (Err e) = Refused e ⊥ (n ≡ off m) ⊥
 
+-- the tests of a read or a write on a card with power: the length, then the number
+abbrev pub Tested : Meaning → ℕ → List ℕ → Result (Unit {0}) Refusal → Type 0
+Tested m k b (Ok _) = (length b ≡ 520) × (k < count m)
+Tested m k b (Err e) = Refused e (length b ≢ 520) ⊥ ((length b ≡ 520) × (count m ≤ k))
+
 -- sector k is copied into the buffer, which holds b before and c after
 abbrev pub ReadAt : Meaning → Meaning → ℕ → List ℕ → List ℕ → Result (Unit {0}) Refusal → Type 0
 ReadAt m n k b c (Ok _) = (length b ≡ 520) × (m.power ≡ true) × (k < count m) × (n ≡ m) × (c ≡ at m k)

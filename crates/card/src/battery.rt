@@ -3,7 +3,7 @@ ghost use Rattle.std.specs.Prelude.{◌≡◌};
 ghost use Rattle.card.specs.Buffers.{flat as flatOf};
 ghost use Rattle.card.specs.Flatness.{flat_sound};
 
-use crate::{Card, FlatCard, WholeStore};
+use crate::{Card, FlatCard, SECTOR_BYTES, WholeStore};
 use refusal::Refusal;
 
 #[derive(Drop)]
@@ -49,7 +49,7 @@ impl WholeStore for BatteryCard {
     }
 
     fn put_two(&mut self, a: u32, x: &[u8], b: u32, y: &[u8]) -> Result<(), Refusal> {
-        if x.len() != 520 || y.len() != 520 {
+        if x.len() != SECTOR_BYTES || y.len() != SECTOR_BYTES {
             return Err(Refusal::WrongLength);
         }
         let count = self.card.sectors();

@@ -3,10 +3,12 @@ ghost use Rattle.std.specs.Prelude.{◌≡◌, ℕ, ◌+◌, ◌*◌, ◌<◌, �
 ghost use Rattle.std.proofs.Math.Seq.{paste};
 ghost use Rattle.octets.specs.Little.{Bytes};
 ghost use Rattle.card.specs.Meaning.{count, put};
-ghost use Rattle.card.specs.Buffers.{flat as flatOf, count_in, sector_in};
+ghost use Rattle.card.specs.Buffers.{flat as flatOf, sector_in};
+ghost use Rattle.card.specs.Calls.{Tested};
 ghost use Rattle.card.specs.Flatness.{flat_sound};
 
-use crate::Card;
+use crate::{Card, SECTOR_BYTES};
+use octets::all_bytes;
 use refusal::Refusal;
 
 // The most sectors that a flat card shows.
@@ -18,20 +20,13 @@ pub struct FlatCard {
     ghost sound: { Bytes (length bytes.items) bytes.items },
 }
 
-// What a slice of bytes holds are bytes.
-fn all_bytes(s: &[u8])
-    ensures { Bytes (length s.now) s.now }
-{
-    let _empty = s.is_empty();
-}
-
 fn copy_out(all: &[u8], n: u32, buf: &mut [u8])
     requires within { n * 520 + 520 ≤ length all.now }
     requires long { length buf.old ≡ 520 }
     ensures { buf.new ≡ sector_in all.now n }
 {
-    let start = n as usize * 520;
-    buf.copy_from_slice(&all[start..start + 520]);
+    let start = n as usize * SECTOR_BYTES;
+    buf.copy_from_slice(&all[start..start + SECTOR_BYTES]);
 }
 
 fn copy_in(all: &mut [u8], n: u32, bytes: &[u8])
@@ -39,8 +34,8 @@ fn copy_in(all: &mut [u8], n: u32, bytes: &[u8])
     requires long { length bytes.now ≡ 520 }
     ensures { all.new ≡ paste all.old (n * 520) bytes.now 520 }
 {
-    let start = n as usize * 520;
-    all[start..start + 520].copy_from_slice(bytes);
+    let start = n as usize * SECTOR_BYTES;
+    all[start..start + SECTOR_BYTES].copy_from_slice(bytes);
 }
 
 impl FlatCard {
@@ -52,19 +47,27 @@ impl FlatCard {
     }
 
     pub(crate) fn sectors(&self) -> u32
-        ensures { result ≡ count_in self.now.bytes.items }
+        ensures { result ≡ count (flatOf self.now.bytes.items) }
     {
-        let fit = self.bytes.len() / 520;
-        if fit < MOST_SECTORS {
-            fit as u32
-        } else {
-            MOST_SECTORS as u32
+        (self.bytes.len() / SECTOR_BYTES).min(MOST_SECTORS) as u32
+    }
+
+    // The tests of a read and a write: the length, then the number.
+    fn test(&self, n: u32, bytes: &[u8]) -> Result<(), Refusal>
+        ensures { Tested (flatOf self.now.bytes.items) n bytes.now result }
+    {
+        if bytes.len() != SECTOR_BYTES {
+            return Err(Refusal::WrongLength);
         }
+        if n >= self.sectors() {
+            return Err(Refusal::OutOfRange);
+        }
+        Ok(())
     }
 
     // Replaces a sector that is there.
     pub(crate) fn replace(&mut self, n: u32, bytes: &[u8])
-        requires within { n < count_in self.old.bytes.items }
+        requires within { n < count (flatOf self.old.bytes.items) }
         requires long { length bytes.now ≡ 520 }
         ensures { flatOf self.new.bytes.items ≡ put (flatOf self.old.bytes.items) n bytes.now }
     {
@@ -86,23 +89,13 @@ impl Card for FlatCard {
     }
 
     fn read(&mut self, n: u32, buf: &mut [u8]) -> Result<(), Refusal> {
-        if buf.len() != 520 {
-            return Err(Refusal::WrongLength);
-        }
-        if n >= self.sectors() {
-            return Err(Refusal::OutOfRange);
-        }
+        self.test(n, buf)?;
         copy_out(self.bytes.as_slice(), n, buf);
         Ok(())
     }
 
     fn write(&mut self, n: u32, bytes: &[u8]) -> Result<(), Refusal> {
-        if bytes.len() != 520 {
-            return Err(Refusal::WrongLength);
-        }
-        if n >= self.sectors() {
-            return Err(Refusal::OutOfRange);
-        }
+        self.test(n, bytes)?;
         self.replace(n, bytes);
         Ok(())
     }

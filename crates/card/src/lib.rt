@@ -14,6 +14,9 @@ mod flat;
 pub use battery::BatteryCard;
 pub use flat::FlatCard;
 
+// How many bytes a sector has.
+pub const SECTOR_BYTES: usize = 520;
+
 // A card may lose power in any call that passes the length test. It then answers "power", and so does every later call
 // but a power-up that succeeds.
 pub trait Card {
@@ -44,8 +47,6 @@ pub trait WholeStore: Card {
 }
 
 // The theorem that a call which passed the length test answers "power" exactly where the power is off at its end.
-pub fn power_always_told() -> u8
+pub fn power_always_told()
     ensures { PowerAlwaysTold }
-{
-    0
-}
+{}

@@ -1,7 +1,7 @@
 // What a block cipher is: made from a key of 32 bytes, it is that key's map of blocks of 16 bytes, and the map back.
 #![tactic(auto)]
 
-ghost use Rattle.std.specs.Prelude.{◌≡◌, List, ℕ};
+ghost use Rattle.std.specs.Prelude.{◌≡◌, ◌<◌, List, ℕ};
 ghost use Rattle.octets.specs.Little.{Bytes, le_bytes};
 ghost use Rattle.cipher.specs.Maps.{Maps, Inverse};
 
@@ -9,8 +9,7 @@ pub trait Cipher: Sized {
     // The cipher's own number, as a volume's trailer has it.
     const NUMBER: u8;
 
-    // The same number, for contracts: a generic contract cannot read a constant.
-    ghost numbered: { ℕ };
+    ghost NUMBER: { ℕ };
 
     ghost forward: { Maps };
 
@@ -19,9 +18,11 @@ pub trait Cipher: Sized {
     // The key that a value was made from.
     ghost key: { Self → List ℕ };
 
-    // `NUMBER`, for generic code: each cipher answers its own constant.
     fn own_number() -> u8
-        ensures { result ≡ numbered };
+        ensures { result ≡ NUMBER }
+    {
+        Self::NUMBER
+    }
 
     fn new(bytes: &[u8; 32]) -> Self
         ensures { key result ≡ bytes.now };
@@ -44,6 +45,8 @@ pub trait Cipher: Sized {
     {
         *block = octets::block_bytes(self.decipher_number(octets::block_number(block)));
     }
+
+    ghost byte: { NUMBER < 256 };
 
     ghost inverse: { Inverse forward back };
 

@@ -5,19 +5,21 @@ use Rattle.refusal.specs.declared.Refusal.{Refusal}
 use Rattle.refusal.specs.declared.Refusal.TheVariants.{PowerOff}
 use Rattle.octets.proofs.Lists.{of_all}
 use Rattle.cut.specs.declared.Script.{Script}
+use Rattle.cut.specs.declared.Loss.{Loss}
+use Rattle.cut.specs.declared.Loss.TheVariants.{Old, New, Junk}
 use Rattle.card.specs.Meaning.{Meaning, Sector, off}
 use Rattle.card.specs.Calls.{Torn, WroteAt}
 use Rattle.cut.specs.Cuts.{cut_of, firing, Stepped, State, Access, junk, Left, Lost, CutWrote}
 use Rattle.card.proofs.Refusals.{refused_any}
 
--- a step that says a kind has fired
-pub step_fires : (o : Option Script) (p : Bool) (o' : Option Script) (p' : Bool) (kind : ℕ) → Stepped o p o' p' (Some kind) → (firing o ≡ true) × (p' ≡ false) × (o' ≡ None)
-step_fires None p o' p' kind w = absurd w
-step_fires (Some s) p o' p' kind w = (eq-eqb s.left 0 w.0, w.3, w.2)
+-- a step that says a loss has fired
+pub step_fires : (o : Option Script) (p : Bool) (o' : Option Script) (p' : Bool) (loss : Loss) → Stepped o p o' p' (Some loss) → (firing o ≡ true) × (p' ≡ false) × (o' ≡ None)
+step_fires None p o' p' loss w = absurd w
+step_fires (Some s) p o' p' loss w = (eq-eqb s.left 0 w.0, w.3, w.2)
 
-pub step_loses : (o : Option Script) (p : Bool) (o' : Option Script) (p' : Bool) (kind : ℕ) (m n : Meaning) (k : ℕ) (b : List ℕ) → Stepped o p o' p' (Some kind) → Left kind m n k b → Lost o m n k b
-step_loses None p o' p' kind m n k b w l = absurd w
-step_loses (Some s) p o' p' kind m n k b w l = subst (λ (i : ℕ). Left i m n k b) w.1 l
+pub step_loses : (o : Option Script) (p : Bool) (o' : Option Script) (p' : Bool) (loss : Loss) (m n : Meaning) (k : ℕ) (b : List ℕ) → Stepped o p o' p' (Some loss) → Left loss m n k b → Lost o m n k b
+step_loses None p o' p' loss m n k b w l = absurd w
+step_loses (Some s) p o' p' loss m n k b w l = subst (λ (i : Loss). Left i m n k b) w.1 l
 
 -- whatever a write below answers, a cut after it is a torn write
 torn_by : (m n : Meaning) (k : ℕ) (b : List ℕ) (r : Result (Unit {0}) Refusal) → Sector b → WroteAt m n k b r → Torn (cut_of true m) (cut_of false n) k
@@ -35,26 +37,26 @@ junk_sector : Sector junk
 unfolding junk
 junk_sector = of_all 520 (replicate 520 90) refl (all_same 520 90 (lit< tt))
 
-pub torn_left : (kind : ℕ) (m n : Meaning) (k : ℕ) (b : List ℕ) → Sector b → Left kind m n k b → Torn (cut_of true m) (cut_of false n) k
-torn_left kind m n k b h =
-    ⊎_elim (λ old. inl (ap (cut_of false) old.1))
-    (⊎_elim (λ new. torn_by m n k b new.1.0 h new.1.1) (λ other. torn_by m n k junk other.2.0 junk_sector other.2.1))
+pub torn_left : (loss : Loss) (m n : Meaning) (k : ℕ) (b : List ℕ) → Sector b → Left loss m n k b → Torn (cut_of true m) (cut_of false n) k
+torn_left Old m n k b h e = inl (ap (cut_of false) e)
+torn_left New m n k b h w = torn_by m n k b w.0 h w.1
+torn_left Junk m n k b h w = torn_by m n k junk w.0 junk_sector w.1
 
 -- a write that the script cuts: s before it, t after its tests, u after the script fired, v at its end
-pub lost_write : (s t u v : State) (kind k : ℕ) (b : List ℕ) → Sector b → Access s k b → t ≡ s
-    → Stepped t.script t.powered u.script u.powered (Some kind) → u.below ≡ t.below
-    → (v.powered ≡ u.powered) × (v.script ≡ u.script) → Left kind u.below v.below k b
+pub lost_write : (s t u v : State) (loss : Loss) (k : ℕ) (b : List ℕ) → Sector b → Access s k b → t ≡ s
+    → Stepped t.script t.powered u.script u.powered (Some loss) → u.below ≡ t.below
+    → (v.powered ≡ u.powered) × (v.script ≡ u.script) → Left loss u.below v.below k b
     → ((length b ≡ 520) × Torn (cut_of s.powered s.below) (cut_of v.powered v.below) k) × CutWrote s v k b (Err PowerOff)
-lost_write s t u v kind k b hb a e st sm kp lf =
+lost_write s t u v loss k b hb a e st sm kp lf =
     let p : u.below ≡ s.below = sm ∙ ap (λ (z : State). z.below) e in
-    let left : Left kind s.below v.below k b = subst (λ (m : Meaning). Left kind m v.below k b) p lf in
-    let stepped : Stepped s.script s.powered u.script u.powered (Some kind) = subst (λ (z : State). Stepped z.script z.powered u.script u.powered (Some kind)) e st in
-    let f = step_fires s.script s.powered u.script u.powered kind stepped in
+    let left : Left loss s.below v.below k b = subst (λ (m : Meaning). Left loss m v.below k b) p lf in
+    let stepped : Stepped s.script s.powered u.script u.powered (Some loss) = subst (λ (z : State). Stepped z.script z.powered u.script u.powered (Some loss)) e st in
+    let f = step_fires s.script s.powered u.script u.powered loss stepped in
     let gone : v.powered ≡ false = kp.0 ∙ f.1 in (
       (
         a.0,
         subst (λ (q : Bool). Torn (cut_of q s.below) (cut_of v.powered v.below) k) (sym a.1)
-            (subst (λ (q : Bool). Torn (cut_of true s.below) (cut_of q v.below) k) (sym gone) (torn_left kind s.below v.below k b hb left)),
+            (subst (λ (q : Bool). Torn (cut_of true s.below) (cut_of q v.below) k) (sym gone) (torn_left loss s.below v.below k b hb left)),
       ),
-      inr (inr (inl (a, ((f.0, gone, kp.1 ∙ f.2), step_loses s.script s.powered u.script u.powered kind s.below v.below k b stepped left)))),
+      inr (inr (inl (a, ((f.0, gone, kp.1 ∙ f.2), step_loses s.script s.powered u.script u.powered loss s.below v.below k b stepped left)))),
     )

@@ -4,26 +4,33 @@ use Rattle.refusal.specs.declared.Refusal.{Refusal}
 use Rattle.card.specs.Meaning.{Meaning, count, off}
 use Rattle.card.specs.Calls.{Refused, Counted, PoweredUp, ReadAt, WroteAt}
 use Rattle.cut.specs.declared.Script.{Script}
+use Rattle.cut.specs.declared.Loss.{Loss}
+use Rattle.cut.specs.declared.Loss.TheVariants.{Old, New, Junk}
+use Rattle.cut.specs.declared.Cut.{Cut}
 
 -- the sectors of the card below; the power is on where it is on below and the layer has not cut it
 abbrev pub cut_of : Bool → Meaning → Meaning
 cut_of powered m = record { sectors = m.sectors; power = powered && m.power }
 
+-- the meaning of a cut layer, by that of the card below
+abbrev pub meaning_of : {C : Type 0} → (C → Meaning) → Cut C → Meaning
+meaning_of meaning c = cut_of c.powered (meaning c.card)
+
 -- an access is served: the script has one less to serve
 abbrev pub ticked : Option Script → Option Script
 ticked None = None
-ticked (Some s) = cond (s.left == 0) None (Some record { left = s.left - 1; kind = s.kind })
+ticked (Some s) = cond (s.left == 0) None (Some record { left = s.left - 1; loss = s.loss })
 
 -- whether the next access loses power
 abbrev pub firing : Option Script → Bool
 firing None = false
 firing (Some s) = s.left == 0
 
--- the script counts an access, and says the kind of its loss where it fires
-abbrev pub Stepped : Option Script → Bool → Option Script → Bool → Option ℕ → Type 0
-Stepped None p s p' (Some kind) = ⊥
+-- the script counts an access, and says what its loss leaves where it fires
+abbrev pub Stepped : Option Script → Bool → Option Script → Bool → Option Loss → Type 0
+Stepped None p s p' (Some loss) = ⊥
 Stepped None p s p' None = (s ≡ None) × (p' ≡ p)
-Stepped (Some o) p s p' (Some kind) = (o.left ≡ 0) × (kind ≡ o.kind) × (s ≡ None) × (p' ≡ false)
+Stepped (Some o) p s p' (Some loss) = (o.left ≡ 0) × (loss ≡ o.loss) × (s ≡ None) × (p' ≡ false)
 Stepped (Some o) p s p' None = ((o.left == 0) ≡ false) × (s ≡ ticked (Some o)) × (p' ≡ p)
 
 -- a cut layer: whether it leaves the power on, its script, and what the card below means
@@ -34,6 +41,10 @@ pub record State : Type 0 where
 
 abbrev pub state : Bool → Option Script → Meaning → State
 state p s m = record { powered = p; script = s; below = m }
+
+-- the state of a cut layer over a card of this meaning
+abbrev pub state_of : {C : Type 0} → (C → Meaning) → Cut C → State
+state_of meaning c = state c.powered c.script (meaning c.card)
 
 -- an access: a read or a write with the power on that passes the tests of length and number
 abbrev pub Access : State → ℕ → List ℕ → Type 0
@@ -59,20 +70,19 @@ CutRead s t k b c r =
     ⊎ ((Access s k b × (Fired s t × (t.below ≡ s.below)))
     ⊎ (Access s k b × (Served s t × ReadAt s.below t.below k b c r))))
 
--- the bytes of a lost write of any kind but 0 and 1
+-- the bytes of a lost write that leaves neither the old bytes nor the new
 unfoldable pub junk : List ℕ
 junk = replicate 520 90
 
--- what a write that the script cuts leaves below: by its kind the old bytes, the new, or 90 in every byte
-abbrev pub Left : ℕ → Meaning → Meaning → ℕ → List ℕ → Type 0
-Left kind m n k b =
-    ((kind ≡ 0) × (n ≡ m))
-    ⊎ (((kind ≡ 1) × ((r : Result (Unit {0}) Refusal) × WroteAt m n k b r))
-    ⊎ ((kind ≢ 0) × (kind ≢ 1) × ((r : Result (Unit {0}) Refusal) × WroteAt m n k junk r)))
+-- what a write that the script cuts leaves below: the old bytes, the new, or 90 in every byte
+abbrev pub Left : Loss → Meaning → Meaning → ℕ → List ℕ → Type 0
+Left Old m n k b = n ≡ m
+Left New m n k b = (r : Result (Unit {0}) Refusal) × WroteAt m n k b r
+Left Junk m n k b = (r : Result (Unit {0}) Refusal) × WroteAt m n k junk r
 
 abbrev pub Lost : Option Script → Meaning → Meaning → ℕ → List ℕ → Type 0
 Lost None m n k b = ⊥
-Lost (Some s) m n k b = Left s.kind m n k b
+Lost (Some s) m n k b = Left s.loss m n k b
 
 abbrev pub CutWrote : State → State → ℕ → List ℕ → Result (Unit {0}) Refusal → Type 0
 CutWrote s t k b r =

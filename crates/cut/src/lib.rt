@@ -5,18 +5,39 @@ ghost use Rattle.std.specs.Prelude.{◌≡◌, true, false, Some, None};
 ghost use Rattle.std.specs.Borrow.{sem, follows};
 ghost use Rattle.cut.specs.contracts.Cut.{the_row};
 ghost use Rattle.card.specs.Calls.{Counted, PoweredUp, ReadAt, WroteAt};
-ghost use Rattle.cut.specs.Cuts.{cut_of, ticked, firing, state, Stepped, Tested, Left, CutRead, CutWrote, CutCounted, CutPoweredUp};
+ghost use Rattle.cut.specs.Losses.{loss_of};
+ghost use Rattle.cut.specs.Cuts.{meaning_of, state_of, Stepped, Tested, Left, CutRead, CutWrote, CutCounted, CutPoweredUp};
 ghost use Rattle.std.proofs.Common.{rules};
 
-use card::Card;
+use card::{Card, SECTOR_BYTES};
 use refusal::Refusal;
 
-// Serves `left` further accesses; the next one loses power. The kind says what a write so lost leaves in its sector:
-// the old bytes (0), the new (1), or 90 in every byte (any other).
+// What a write that loses power leaves in its sector: the old bytes, the new, or 90 in every byte.
+#[derive(Clone, Copy, PartialEq, Eq, Debug)]
+pub enum Loss {
+    Old = 0,
+    New = 1,
+    Junk = 2,
+}
+
+// Every number has its loss: 0 and 1 have the first two, and any other has the last.
+impl From<u8> for Loss {
+    ghost from_gives = { λ kind loss. loss ≡ loss_of kind };
+
+    fn from(kind: u8) -> Loss {
+        match kind {
+            0 => Loss::Old,
+            1 => Loss::New,
+            _ => Loss::Junk,
+        }
+    }
+}
+
+// Serves `left` further accesses; the next one loses power.
 #[derive(Clone, Copy)]
 pub struct Script {
     pub left: u32,
-    pub kind: u8,
+    pub loss: Loss,
 }
 
 #[derive(Drop)]
@@ -46,42 +67,38 @@ impl<C> Cut<C> {
 
     // The card below, lent: nothing else of the layer changes.
     pub fn below(&mut self) -> &mut C
-        ensures* { sem 𝓛 (follows (the_row C.row) C.row self.entry.ghost_name result.ghost_name (λ w. record { card = w; script = self.old.script; powered = self.old.powered })) }
+        ensures lent { result.now ≡ self.old.card }
+        ensures* lends { sem 𝓛 (follows (the_row C.row) C.row self.entry.ghost_name result.ghost_name (λ w. record { card = w; script = self.old.script; powered = self.old.powered })) }
     {
         &mut self.card
     }
 
-    // Counts one access: the kind of its loss, where it loses power.
-    fn step(&mut self) -> Option<u8>
+    // Counts one access: what its loss leaves, where it loses power.
+    fn step(&mut self) -> Option<Loss>
         ensures { Stepped self.old.script self.old.powered self.new.script self.new.powered result × (self.new.card ≡ self.old.card) }
     {
-        match self.script {
-            None => None,
-            Some(script) => {
-                if script.left == 0 {
-                    self.script = None;
-                    self.powered = false;
-                    Some(script.kind)
-                } else {
-                    self.script = Some(Script {
-                        left: script.left - 1,
-                        kind: script.kind,
-                    });
-                    None
-                }
-            }
+        let script = self.script?;
+        if script.left == 0 {
+            self.script = None;
+            self.powered = false;
+            return Some(script.loss);
         }
+        self.script = Some(Script {
+            left: script.left - 1,
+            ..script
+        });
+        None
     }
 }
 
 impl<C: Card> Card for Cut<C> {
-    ghost meaning = { λ c. cut_of c.powered (C.Card.meaning c.card) };
+    ghost meaning = { meaning_of C.Card.meaning };
 
     ghost sound = { Prim.search rules };
 
     fn count(&mut self) -> Result<u32, Refusal>
-        ensures card { Counted (cut_of self.old.powered (C.Card.meaning self.old.card)) (cut_of self.new.powered (C.Card.meaning self.new.card)) result }
-        ensures cut { CutCounted (state self.old.powered self.old.script (C.Card.meaning self.old.card)) (state self.new.powered self.new.script (C.Card.meaning self.new.card)) result }
+        ensures card { Counted (meaning_of C.Card.meaning self.old) (meaning_of C.Card.meaning self.new) result }
+        ensures cut { CutCounted (state_of C.Card.meaning self.old) (state_of C.Card.meaning self.new) result }
     {
         if self.powered {
             self.card.count()
@@ -91,22 +108,18 @@ impl<C: Card> Card for Cut<C> {
     }
 
     fn power_up(&mut self) -> Result<(), Refusal>
-        ensures card { PoweredUp (cut_of self.old.powered (C.Card.meaning self.old.card)) (cut_of self.new.powered (C.Card.meaning self.new.card)) result }
-        ensures cut { CutPoweredUp (state self.old.powered self.old.script (C.Card.meaning self.old.card)) (state self.new.powered self.new.script (C.Card.meaning self.new.card)) result }
+        ensures card { PoweredUp (meaning_of C.Card.meaning self.old) (meaning_of C.Card.meaning self.new) result }
+        ensures cut { CutPoweredUp (state_of C.Card.meaning self.old) (state_of C.Card.meaning self.new) result }
     {
         self.script = None;
-        match self.card.power_up() {
-            Ok(()) => {
-                self.powered = true;
-                Ok(())
-            }
-            Err(e) => Err(e),
-        }
+        self.card.power_up()?;
+        self.powered = true;
+        Ok(())
     }
 
     fn read(&mut self, n: u32, buf: &mut [u8]) -> Result<(), Refusal>
-        ensures card { ReadAt (cut_of self.old.powered (C.Card.meaning self.old.card)) (cut_of self.new.powered (C.Card.meaning self.new.card)) n buf.old buf.new result }
-        ensures cut { CutRead (state self.old.powered self.old.script (C.Card.meaning self.old.card)) (state self.new.powered self.new.script (C.Card.meaning self.new.card)) n buf.old buf.new result }
+        ensures card { ReadAt (meaning_of C.Card.meaning self.old) (meaning_of C.Card.meaning self.new) n buf.old buf.new result }
+        ensures cut { CutRead (state_of C.Card.meaning self.old) (state_of C.Card.meaning self.new) n buf.old buf.new result }
     {
         self.test(n, buf)?;
         match self.step() {
@@ -116,14 +129,14 @@ impl<C: Card> Card for Cut<C> {
     }
 
     fn write(&mut self, n: u32, bytes: &[u8]) -> Result<(), Refusal>
-        ensures card { WroteAt (cut_of self.old.powered (C.Card.meaning self.old.card)) (cut_of self.new.powered (C.Card.meaning self.new.card)) n bytes.now result }
-        ensures cut { CutWrote (state self.old.powered self.old.script (C.Card.meaning self.old.card)) (state self.new.powered self.new.script (C.Card.meaning self.new.card)) n bytes.now result }
+        ensures card { WroteAt (meaning_of C.Card.meaning self.old) (meaning_of C.Card.meaning self.new) n bytes.now result }
+        ensures cut { CutWrote (state_of C.Card.meaning self.old) (state_of C.Card.meaning self.new) n bytes.now result }
     {
         self.test(n, bytes)?;
         match self.step() {
             None => self.card.write(n, bytes),
-            Some(kind) => {
-                self.lose(kind, n, bytes);
+            Some(loss) => {
+                self.lose(loss, n, bytes);
                 Err(Refusal::PowerOff)
             }
         }
@@ -133,9 +146,9 @@ impl<C: Card> Card for Cut<C> {
 impl<C: Card> Cut<C> {
     // The tests of an access: the length, the power, the number.
     fn test(&mut self, n: u32, bytes: &[u8]) -> Result<(), Refusal>
-        ensures { Tested (state self.old.powered self.old.script (C.Card.meaning self.old.card)) (state self.new.powered self.new.script (C.Card.meaning self.new.card)) n bytes.now result }
+        ensures { Tested (state_of C.Card.meaning self.old) (state_of C.Card.meaning self.new) n bytes.now result }
     {
-        if bytes.len() != 520 {
+        if bytes.len() != SECTOR_BYTES {
             return Err(Refusal::WrongLength);
         }
         if !self.powered {
@@ -149,14 +162,19 @@ impl<C: Card> Cut<C> {
     }
 
     // What a lost write leaves below. Whatever the card below answers, the power is gone.
-    fn lose(&mut self, kind: u8, n: u32, bytes: &[u8])
+    #[tactic(auto, unfolding(crate::specs::Cuts::junk))]
+    fn lose(&mut self, loss: Loss, n: u32, bytes: &[u8])
         ensures same { (self.new.powered ≡ self.old.powered) × (self.new.script ≡ self.old.script) }
-        ensures left { Left kind (C.Card.meaning self.old.card) (C.Card.meaning self.new.card) n bytes.now }
+        ensures left { Left loss (C.Card.meaning self.old.card) (C.Card.meaning self.new.card) n bytes.now }
     {
-        if kind == 1 {
-            let _ = self.card.write(n, bytes);
-        } else if kind != 0 {
-            let _ = self.card.write(n, &[90u8; 520]);
+        match loss {
+            Loss::Old => {}
+            Loss::New => {
+                let _ = self.card.write(n, bytes);
+            }
+            Loss::Junk => {
+                let _ = self.card.write(n, &[90u8; SECTOR_BYTES]);
+            }
         }
     }
 }

@@ -5,11 +5,13 @@
 mod trial;
 
 use anyhow::anyhow;
-use std::alloc::Global;
-use trial::{Outcome, Put, Store};
+use card::Card;
+use cut::Loss;
+use std::fmt;
+use trial::{Outcome, Put, Trial};
 
 // How many cases came out in each way.
-#[derive(Clone, Copy)]
+#[derive(Clone, Copy, Default)]
 struct Tally {
     old: u32,
     new: u32,
@@ -18,87 +20,88 @@ struct Tally {
 
 impl Tally {
     fn count(&mut self, outcome: Outcome) {
-        match outcome {
-            Outcome::AllOld => self.old = self.old.saturating_add(1),
-            Outcome::AllNew => self.new = self.new.saturating_add(1),
-            Outcome::Mixed => self.mixed = self.mixed.saturating_add(1),
-        }
+        let ways = match outcome {
+            Outcome::AllOld => &mut self.old,
+            Outcome::AllNew => &mut self.new,
+            Outcome::Mixed => &mut self.mixed,
+        };
+        *ways = ways.saturating_add(1);
+    }
+}
+
+impl fmt::Display for Tally {
+    fn fmt<W: fmt::Write>(&self, f: &mut fmt::Formatter<W>) -> fmt::Result {
+        let old = self.old;
+        let new = self.new;
+        let mixed = self.mixed;
+        let cases = old.saturating_add(new).saturating_add(mixed);
+        write!(
+            f,
+            "{cases} cases: {old} all old, {new} all new, {mixed} mixed"
+        )
     }
 }
 
 // One cut in the put, then power-up, which settles.
-fn cut_once(
-    rt: &HostRuntime,
-    put: Put,
-    at: u32,
-    kind: u8,
-    tally: &mut Tally,
-) -> anyhow::Result<()> {
-    let mut store = trial::cut_put(rt.alloc(), put, at, kind)?;
-    trial::power_up(&mut store)?;
-    let targets = trial::targets_of(&mut store, put)?;
+fn cut_once(rt: &HostRuntime, trial: Trial, tally: &mut Tally) -> anyhow::Result<()> {
+    let mut store = trial.cut_put(rt.alloc())?;
+    store.power_up()?;
+    let targets = trial.targets(&mut store)?;
     tally.count(targets.together());
-    let access = put.access(at);
-    println!(rt; "{put}, kind {kind}, cut in {access}: {targets}")?;
+    println!(rt; "{trial}: {targets}")?;
     Ok(())
 }
 
 // The same, with a second cut in an access of the settling that the next put begins with.
-fn cut_twice(
-    rt: &HostRuntime,
-    put: Put,
-    at: u32,
-    kind: u8,
-    again: u32,
-    tally: &mut Tally,
-) -> anyhow::Result<()> {
-    let mut store = trial::cut_put(rt.alloc(), put, at, kind)?;
-    trial::cut_settling(&mut store, again, kind)?;
-    trial::power_up(&mut store)?;
-    let targets = trial::targets_of(&mut store, put)?;
+fn cut_twice(rt: &HostRuntime, trial: Trial, again: u32, tally: &mut Tally) -> anyhow::Result<()> {
+    let mut store = trial.cut_put(rt.alloc())?;
+    trial.cut_settling(&mut store, again)?;
+    store.power_up()?;
+    let targets = trial.targets(&mut store)?;
     tally.count(targets.together());
-    let access = put.access(at);
     let number = again.saturating_add(1);
-    println!(rt;
-        "{put}, kind {kind}, cut in {access}, and in access {number} of the settling: {targets}"
-    )?;
+    println!(rt; "{trial}, and in access {number} of the settling: {targets}")?;
     Ok(())
 }
 
-fn settling_of(heap: Global, put: Put, at: u32, kind: u8) -> anyhow::Result<u32> {
-    let mut store: Store = trial::cut_put(heap, put, at, kind)?;
-    trial::settling(&mut store, put)
+// The cuts of one access: alone, and with each access of the settling after it.
+fn cut_access(rt: &HostRuntime, trial: Trial, tally: &mut Tally) -> anyhow::Result<()> {
+    cut_once(rt, trial, tally)?;
+    let mut store = trial.cut_put(rt.alloc())?;
+    for again in 0..trial.settling(&mut store)? {
+        cut_twice(rt, trial, again, tally)?;
+    }
+    Ok(())
 }
 
 // All the cuts of one put with one kind of lost write.
-fn cut_all(rt: &HostRuntime, put: Put, kind: u8, tally: &mut Tally) -> anyhow::Result<()> {
-    for at in 0..put.accesses() {
-        cut_once(rt, put, at, kind, tally)?;
-        for again in 0..settling_of(rt.alloc(), put, at, kind)? {
-            cut_twice(rt, put, at, kind, again, tally)?;
-        }
+fn cut_put(rt: &HostRuntime, put: Put, loss: Loss, tally: &mut Tally) -> anyhow::Result<()> {
+    for (at, access) in (0u32..).zip(put.accesses()) {
+        let trial = Trial {
+            put,
+            at,
+            access: *access,
+            loss,
+        };
+        cut_access(rt, trial, tally)?;
+    }
+    Ok(())
+}
+
+fn cut_each(rt: &HostRuntime, put: Put, tally: &mut Tally) -> anyhow::Result<()> {
+    for loss in [Loss::Old, Loss::New, Loss::Junk] {
+        cut_put(rt, put, loss, tally)?;
     }
     Ok(())
 }
 
 fn run(rt: &HostRuntime) -> anyhow::Result<()> {
-    let mut tally = Tally {
-        old: 0,
-        new: 0,
-        mixed: 0,
-    };
-    for kind in 0..3u8 {
-        cut_all(rt, Put::One, kind, &mut tally)?;
+    let mut tally = Tally::default();
+    for put in [Put::One, Put::Two] {
+        cut_each(rt, put, &mut tally)?;
     }
-    for kind in 0..3u8 {
-        cut_all(rt, Put::Two, kind, &mut tally)?;
-    }
-    let old = tally.old;
-    let new = tally.new;
-    let mixed = tally.mixed;
-    let cases = old.saturating_add(new).saturating_add(mixed);
-    println!(rt; "{cases} cases: {old} all old, {new} all new, {mixed} mixed")?;
-    if mixed > 0 {
+    println!(rt; "{tally}")?;
+    if tally.mixed > 0 {
         return Err(anyhow!("a case was mixed"));
     }
     Ok(())

@@ -1,8 +1,9 @@
 // One trial: a put on a fresh store, cut at a chosen access, and what its targets show afterwards.
-use anyhow::anyhow;
-use card::{Card, FlatCard, WholeStore};
-use cut::{Cut, Script};
+use accesses::Access;
+use card::{Card, FlatCard, SECTOR_BYTES, WholeStore};
+use cut::{Cut, Loss, Script};
 use journal::Journal;
+use octets::all_are;
 use refusal::Refusal;
 use std::alloc::{AllocError, Global};
 use std::fmt;
@@ -30,74 +31,52 @@ pub enum Put {
 
 impl fmt::Display for Put {
     fn fmt<W: fmt::Write>(&self, f: &mut fmt::Formatter<W>) -> fmt::Result {
-        match self {
-            Put::One => f.pad("put one"),
-            Put::Two => f.pad("put two"),
-        }
+        f.pad(match self {
+            Put::One => "put one",
+            Put::Two => "put two",
+        })
     }
 }
 
-// An access of a put, in the order in which it makes them.
-#[derive(Clone, Copy)]
-pub enum Access {
-    LooksAtFlag,
-    FirstSpare,
-    SecondSpare,
-    Slip,
-    RaisesFlag,
-    FirstPlace,
-    SecondPlace,
-    LowersFlag,
-}
+// What a put of one sector does to the card, where the flag is lowered.
+const ONE: [Access; 6] = [
+    Access::LooksAtFlag,
+    Access::FirstSpare,
+    Access::Slip,
+    Access::RaisesFlag,
+    Access::FirstPlace,
+    Access::LowersFlag,
+];
 
-impl fmt::Display for Access {
-    fn fmt<W: fmt::Write>(&self, f: &mut fmt::Formatter<W>) -> fmt::Result {
-        match self {
-            Access::LooksAtFlag => f.pad("the read of the flag"),
-            Access::FirstSpare => f.pad("the write of the first spare"),
-            Access::SecondSpare => f.pad("the write of the second spare"),
-            Access::Slip => f.pad("the write of the slip"),
-            Access::RaisesFlag => f.pad("the raising of the flag"),
-            Access::FirstPlace => f.pad("the write of the first place"),
-            Access::SecondPlace => f.pad("the write of the second place"),
-            Access::LowersFlag => f.pad("the lowering of the flag"),
-        }
-    }
-}
+const TWO: [Access; 8] = [
+    Access::LooksAtFlag,
+    Access::FirstSpare,
+    Access::SecondSpare,
+    Access::Slip,
+    Access::RaisesFlag,
+    Access::FirstPlace,
+    Access::SecondPlace,
+    Access::LowersFlag,
+];
 
 impl Put {
-    pub(crate) fn accesses(self) -> u32 {
+    // The accesses of the put, in the order in which it makes them.
+    pub(crate) fn accesses(self) -> &'static [Access] {
         match self {
-            Put::One => 6,
-            Put::Two => 8,
-        }
-    }
-
-    // Access `at` of the put, counted from 0.
-    pub(crate) fn access(self, at: u32) -> Access {
-        match (self, at) {
-            (_, 0) => Access::LooksAtFlag,
-            (_, 1) => Access::FirstSpare,
-            (Put::One, 2) => Access::Slip,
-            (Put::One, 3) => Access::RaisesFlag,
-            (Put::One, 4) => Access::FirstPlace,
-            (Put::Two, 2) => Access::SecondSpare,
-            (Put::Two, 3) => Access::Slip,
-            (Put::Two, 4) => Access::RaisesFlag,
-            (Put::Two, 5) => Access::FirstPlace,
-            (Put::Two, 6) => Access::SecondPlace,
-            _ => Access::LowersFlag,
+            Put::One => &ONE,
+            Put::Two => &TWO,
         }
     }
 
     fn make(self, store: &mut Store) -> Result<(), Refusal> {
+        let first = [FIRST_BYTE; SECTOR_BYTES];
         match self {
-            Put::One => store.put_one(FIRST_TARGET, &[FIRST_BYTE; 520]),
+            Put::One => store.put_one(FIRST_TARGET, &first),
             Put::Two => store.put_two(
                 FIRST_TARGET,
-                &[FIRST_BYTE; 520],
+                &first,
                 SECOND_TARGET,
-                &[SECOND_BYTE; 520],
+                &[SECOND_BYTE; SECTOR_BYTES],
             ),
         }
     }
@@ -121,11 +100,11 @@ pub enum Shown {
 
 impl fmt::Display for Shown {
     fn fmt<W: fmt::Write>(&self, f: &mut fmt::Formatter<W>) -> fmt::Result {
-        match self {
-            Shown::Old => f.pad("old"),
-            Shown::New => f.pad("new"),
-            Shown::Neither => f.pad("neither old nor new"),
-        }
+        f.pad(match self {
+            Shown::Old => "old",
+            Shown::New => "new",
+            Shown::Neither => "neither old nor new",
+        })
     }
 }
 
@@ -164,73 +143,80 @@ impl fmt::Display for Targets {
     }
 }
 
-// A refusal as an error, by its text.
-fn told(reply: Result<(), Refusal>) -> anyhow::Result<()> {
-    match reply {
-        Ok(()) => Ok(()),
-        Err(refusal) => Err(anyhow!(refusal.text())),
-    }
-}
-
-// A put on a fresh store that serves `at` accesses and loses power in the next.
-pub(crate) fn cut_put(heap: Global, put: Put, at: u32, kind: u8) -> Result<Store, AllocError> {
-    let bytes = vec![in heap; 0u8; SECTORS * 520]?;
-    let mut store = Journal::new(Cut::new(FlatCard::new(bytes)));
-    store.below().set_script(Script { left: at, kind });
-    let _ = put.make(&mut store);
-    Ok(store)
-}
-
-pub(crate) fn power_up(store: &mut Store) -> anyhow::Result<()> {
-    told(store.power_up())
-}
-
-// Powers the card alone, so that nothing is settled, and cuts access `at` of the settling that the next put begins with.
-pub(crate) fn cut_settling(store: &mut Store, at: u32, kind: u8) -> anyhow::Result<()> {
-    told(store.below().power_up())?;
-    store.below().set_script(Script { left: at, kind });
-    let _ = store.put_one(0, &[9u8; 520]);
-    Ok(())
-}
-
-// How many accesses the settling will make: one where it finds the flag lowered.
-pub(crate) fn settling(store: &mut Store, put: Put) -> anyhow::Result<u32> {
-    told(store.below().power_up())?;
-    let mut flag = [0u8; 520];
-    told(store.below().read(FLAG, &mut flag))?;
-    if all_are(&flag, 0xa5) {
-        Ok(put.settling())
+fn shows(store: &mut Store, n: u32, new: u8) -> Result<Shown, Refusal> {
+    let mut sector = [0u8; SECTOR_BYTES];
+    store.read(n, &mut sector)?;
+    Ok(if all_are(&sector, 0) {
+        Shown::Old
+    } else if all_are(&sector, new) {
+        Shown::New
     } else {
-        Ok(1)
+        Shown::Neither
+    })
+}
+
+// A put that is cut in access `at` of its own, counted from 0, and what a write so lost leaves.
+#[derive(Clone, Copy)]
+pub struct Trial {
+    pub put: Put,
+    pub at: u32,
+    pub access: Access,
+    pub loss: Loss,
+}
+
+impl fmt::Display for Trial {
+    fn fmt<W: fmt::Write>(&self, f: &mut fmt::Formatter<W>) -> fmt::Result {
+        let put = self.put;
+        let kind = self.loss as u8;
+        let access = self.access;
+        write!(f, "{put}, kind {kind}, cut in {access}")
     }
 }
 
-fn all_are(bytes: &[u8], value: u8) -> bool {
-    for b in bytes {
-        if *b != value {
-            return false;
+impl Trial {
+    // A fresh store that serves `at` accesses of the put and loses power in the next.
+    pub(crate) fn cut_put(self, heap: Global) -> Result<Store, AllocError> {
+        let bytes = vec![in heap; 0u8; SECTORS * SECTOR_BYTES]?;
+        let mut store = Journal::new(Cut::new(FlatCard::new(bytes)));
+        store.below().set_script(self.script(self.at));
+        let _ = self.put.make(&mut store);
+        Ok(store)
+    }
+
+    // Powers the card alone, so that nothing is settled, and cuts access `at` of the settling that the next put begins
+    // with.
+    pub(crate) fn cut_settling(self, store: &mut Store, at: u32) -> Result<(), Refusal> {
+        store.below().power_up()?;
+        store.below().set_script(self.script(at));
+        let _ = store.put_one(0, &[9u8; SECTOR_BYTES]);
+        Ok(())
+    }
+
+    // How many accesses the settling will make: one where it finds the flag lowered.
+    pub(crate) fn settling(self, store: &mut Store) -> Result<u32, Refusal> {
+        store.below().power_up()?;
+        let mut flag = [0u8; SECTOR_BYTES];
+        store.below().read(FLAG, &mut flag)?;
+        Ok(if all_are(&flag, 0xa5) {
+            self.put.settling()
+        } else {
+            1
+        })
+    }
+
+    pub(crate) fn targets(self, store: &mut Store) -> Result<Targets, Refusal> {
+        let first = shows(store, FIRST_TARGET, FIRST_BYTE)?;
+        let second = match self.put {
+            Put::One => None,
+            Put::Two => Some(shows(store, SECOND_TARGET, SECOND_BYTE)?),
+        };
+        Ok(Targets { first, second })
+    }
+
+    fn script(self, left: u32) -> Script {
+        Script {
+            left,
+            loss: self.loss,
         }
     }
-    true
-}
-
-fn shows(store: &mut Store, n: u32, new: u8) -> anyhow::Result<Shown> {
-    let mut sector = [0u8; 520];
-    told(store.read(n, &mut sector))?;
-    if all_are(&sector, 0) {
-        Ok(Shown::Old)
-    } else if all_are(&sector, new) {
-        Ok(Shown::New)
-    } else {
-        Ok(Shown::Neither)
-    }
-}
-
-pub(crate) fn targets_of(store: &mut Store, put: Put) -> anyhow::Result<Targets> {
-    let first = shows(store, FIRST_TARGET, FIRST_BYTE)?;
-    let second = match put {
-        Put::One => None,
-        Put::Two => Some(shows(store, SECOND_TARGET, SECOND_BYTE)?),
-    };
-    Ok(Targets { first, second })
 }

@@ -1,76 +1,56 @@
 // What ends a run: a line that is no call, or an input or output that fails.
 use std::alloc::AllocError;
-use std::{fmt, io};
+use std::io;
+use thiserror::Error;
 
 // What a line should have had at the place where it went wrong.
-#[derive(Clone, Copy)]
+#[derive(Clone, Copy, Debug, Error)]
 pub enum Expected {
+    #[error("text")]
     Text,
+    #[error("stack CIPHER STORE SECTORS, before any call")]
     Stack,
+    #[error("aes256 or speck")]
     Cipher,
+    #[error("journal or battery")]
     Store,
+    #[error("SECTORS, a decimal number of at most 4096")]
     Sectors,
+    #[error("load, format, count, read, write, claim, begin, step, finish, hand-in, power-up, cut or dump")]
     Call,
+    #[error("a key in hex")]
     Key,
+    #[error("REACH, a decimal number below 2^32")]
     Reach,
+    #[error("LABEL in hex")]
     Label,
+    #[error("N, a decimal number below 2^32")]
     Number,
+    #[error("BYTE, a decimal number below 256")]
     Byte,
+    #[error("K, a decimal number below 2^32")]
     Accesses,
+    #[error("KIND, a decimal number below 256")]
     Kind,
+    #[error("no cut, since a battery stack has no cut layer")]
     CutLayer,
+    #[error("the end of the line")]
     End,
+    #[error("more memory")]
     Memory,
 }
 
-impl fmt::Display for Expected {
-    fn fmt<W: fmt::Write>(&self, f: &mut fmt::Formatter<W>) -> fmt::Result {
-        match self {
-            Expected::Text => f.pad("text"),
-            Expected::Stack => f.pad("stack CIPHER STORE SECTORS, before any call"),
-            Expected::Cipher => f.pad("aes256 or speck"),
-            Expected::Store => f.pad("journal or battery"),
-            Expected::Sectors => f.pad("SECTORS, a decimal number of at most 4096"),
-            Expected::Call => f.pad(
-                "load, format, count, read, write, claim, begin, step, finish, hand-in, power-up, cut or dump",
-            ),
-            Expected::Key => f.pad("a key in hex"),
-            Expected::Reach => f.pad("REACH, a decimal number below 2^32"),
-            Expected::Label => f.pad("LABEL in hex"),
-            Expected::Number => f.pad("N, a decimal number below 2^32"),
-            Expected::Byte => f.pad("BYTE, a decimal number below 256"),
-            Expected::Accesses => f.pad("K, a decimal number below 2^32"),
-            Expected::Kind => f.pad("KIND, a decimal number below 256"),
-            Expected::CutLayer => f.pad("no cut, since a battery stack has no cut layer"),
-            Expected::End => f.pad("the end of the line"),
-            Expected::Memory => f.pad("more memory"),
-        }
-    }
-}
-
+// A derived From would keep the AllocError in the case, and what hex_text says of memory has none to give.
 impl From<AllocError> for Expected {
     fn from(_e: AllocError) -> Expected {
         Expected::Memory
     }
 }
 
-#[derive(Drop)]
+#[derive(Debug, Drop, Error)]
 pub enum Fault {
+    #[error("line {0}: expected {1}")]
     Line(u64, Expected),
-    Io(io::Error),
-}
-
-impl From<io::Error> for Fault {
-    fn from(e: io::Error) -> Fault {
-        Fault::Io(e)
-    }
-}
-
-impl fmt::Debug for Fault {
-    fn fmt<W: fmt::Write>(&self, f: &mut fmt::Formatter<W>) -> fmt::Result {
-        match self {
-            Fault::Line(number, expected) => write!(f, "line {number}: expected {expected}"),
-            Fault::Io(e) => write!(f, "{e}"),
-        }
-    }
+    #[error(transparent)]
+    Io(#[from] io::Error),
 }

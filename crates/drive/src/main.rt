@@ -7,7 +7,7 @@ mod order;
 mod read;
 mod stack;
 
-use card::BatteryCard;
+use card::{BatteryCard, SECTOR_BYTES};
 use fault::{Expected, Fault};
 use history::{Call, Drive};
 use keys::{AesKey, LoadedKey, SpeckKey};
@@ -18,27 +18,28 @@ use stack::{Bench, JournalStack, journal_stack};
 use std::alloc::{AllocError, Global};
 use std::io::{BufRead, BufReader};
 
-// Makes one call, and gives what to print.
+// Makes one call, and gives what to print. (The heap and the drive come apart: what held both would be taken apart again
+// wherever the drive is closed.)
 fn tell<K: LoadedKey + Drop, S: Bench>(
     heap: Global,
     drive: &mut Drive<K, S>,
     call: Call,
 ) -> Result<String, AllocError> {
-    let mut work = [0u8; 520];
+    let mut work = [0u8; SECTOR_BYTES];
     let report = Report::on(heap, drive, call, &mut work)?;
     format!(in heap; "{report}")
 }
 
 // A sector of the card at the bottom in hex, or the refusal's number.
 fn dump<K, S: Bench>(heap: Global, drive: &mut Drive<K, S>, n: u32) -> Result<String, AllocError> {
-    let mut sector = [0u8; 520];
+    let mut sector = [0u8; SECTOR_BYTES];
     match drive.below().dump(n, &mut sector) {
         Ok(()) => {
             let bytes = hex_text::encode(heap, &sector)?;
             format!(in heap; "D {bytes}")
         }
         Err(refusal) => {
-            let number = refusal.number();
+            let number = u8::from(refusal);
             format!(in heap; "D {number}")
         }
     }
@@ -52,10 +53,10 @@ fn obey<K: LoadedKey + Drop, S: Bench>(
     match order {
         Order::Call(request) => Ok(Some(tell(heap, drive, request.call())?)),
         Order::Dump(n) => Ok(Some(dump(heap, drive, *n)?)),
-        Order::Cut(script) => match drive.below().cut(*script) {
-            Some(()) => Ok(None),
-            None => Err(Expected::CutLayer),
-        },
+        Order::Cut(script) => {
+            drive.below().cut(*script).ok_or(Expected::CutLayer)?;
+            Ok(None)
+        }
     }
 }
 
@@ -72,28 +73,23 @@ fn reply_to<K: LoadedKey + Drop, S: Bench>(
     obey(heap, drive, &read::order(heap, &words)?)
 }
 
-fn serve<K: LoadedKey + Drop, S: Bench, B: BufRead>(
+fn serve<K: LoadedKey + Drop, S: Bench, B: BufRead + Drop>(
     rt: &HostRuntime,
     drive: &mut Drive<K, S>,
     lines: &mut Lines<B>,
 ) -> Result<(), Fault> {
-    let heap = rt.alloc();
-    let mut line = String::new(heap);
-    for _ in 0..u64::MAX {
-        if !lines.next_into(&mut line)? {
-            return Ok(());
-        }
-        match reply_to(heap, drive, &line) {
-            Ok(Some(reply)) => rt.println(reply)?,
-            Ok(None) => {}
-            Err(expected) => return Err(lines.fault(expected)),
+    for (number, line) in lines {
+        let line = lines::text(number, line)?;
+        let reply = reply_to(rt.alloc(), drive, &line).map_err(|e| Fault::Line(number, e))?;
+        if let Some(reply) = reply {
+            rt.println(reply)?;
         }
     }
     Ok(())
 }
 
 // However the lines end, the drive is closed: it may hold a permit.
-fn rehearse_on<K: LoadedKey + Drop, S: Bench + Drop, B: BufRead>(
+fn rehearse_on<K: LoadedKey + Drop, S: Bench + Drop, B: BufRead + Drop>(
     rt: &HostRuntime,
     store: S,
     lines: &mut Lines<B>,
@@ -112,35 +108,32 @@ fn plan_in(heap: Global, line: &str) -> Result<Option<Plan>, Expected> {
     Ok(Some(read::plan(&words)?))
 }
 
-// The plan of the first line that has words; none where no line has.
-fn first_plan<B: BufRead>(heap: Global, lines: &mut Lines<B>) -> Result<Option<Plan>, Fault> {
-    let mut line = String::new(heap);
-    for _ in 0..u64::MAX {
-        if !lines.next_into(&mut line)? {
-            return Ok(None);
-        }
-        match plan_in(heap, &line) {
-            Ok(Some(plan)) => return Ok(Some(plan)),
-            Ok(None) => {}
-            Err(expected) => return Err(lines.fault(expected)),
+// The plan of the first line that has words, and its number; none where no line has.
+fn first_plan<B: BufRead + Drop>(
+    heap: Global,
+    lines: &mut Lines<B>,
+) -> Result<Option<(u64, Plan)>, Fault> {
+    for (number, line) in lines {
+        let line = lines::text(number, line)?;
+        let plan = plan_in(heap, &line).map_err(|e| Fault::Line(number, e))?;
+        if let Some(plan) = plan {
+            return Ok(Some((number, plan)));
         }
     }
     Ok(None)
 }
 
 fn zeroed(heap: Global, plan: Plan) -> Result<Vec<u8>, Expected> {
-    Ok(vec![in heap; 0u8; plan.sectors as usize * 520]?)
+    Ok(vec![in heap; 0u8; plan.sectors as usize * SECTOR_BYTES]?)
 }
 
-fn rehearse_with<K: LoadedKey + Drop, B: BufRead>(
+fn rehearse_with<K: LoadedKey + Drop, B: BufRead + Drop>(
     rt: &HostRuntime,
+    number: u64,
     plan: Plan,
     lines: &mut Lines<B>,
 ) -> Result<(), Fault> {
-    let bytes = match zeroed(rt.alloc(), plan) {
-        Ok(bytes) => bytes,
-        Err(expected) => return Err(lines.fault(expected)),
-    };
+    let bytes = zeroed(rt.alloc(), plan).map_err(|e| Fault::Line(number, e))?;
     match plan.store {
         StoreName::Journal => { rehearse_on::<K, JournalStack, B>(rt, journal_stack(bytes), lines) }
         StoreName::Battery => {
@@ -150,18 +143,19 @@ fn rehearse_with<K: LoadedKey + Drop, B: BufRead>(
 }
 
 fn rehearse<B: BufRead + Drop>(rt: &HostRuntime, reader: B) -> Result<(), Fault> {
-    let mut lines = Lines::new(reader);
-    let Some(plan) = first_plan(rt.alloc(), &mut lines)? else {
+    let mut lines = (1..=u64::MAX).zip(reader.lines(rt.alloc()));
+    let Some((number, plan)) = first_plan(rt.alloc(), &mut lines)? else {
         return Ok(());
     };
     match plan.cipher {
-        CipherName::Aes256 => rehearse_with::<AesKey, B>(rt, plan, &mut lines),
-        CipherName::Speck => rehearse_with::<SpeckKey, B>(rt, plan, &mut lines),
+        CipherName::Aes256 => rehearse_with::<AesKey, B>(rt, number, plan, &mut lines),
+        CipherName::Speck => rehearse_with::<SpeckKey, B>(rt, number, plan, &mut lines),
     }
 }
 
-fn main(rt: HostRuntime) -> Result<(), Fault> {
-    rehearse(&rt, BufReader::new(rt.alloc(), rt.stdin())?)
+fn main(rt: HostRuntime) -> anyhow::Result<()> {
+    rehearse(&rt, BufReader::new(rt.alloc(), rt.stdin())?)?;
+    Ok(())
 }
 
 #[cfg(test)]
@@ -316,6 +310,7 @@ mod tests {
             let Err(fault) = rehearse(&rt, script.as_bytes()) else {
                 return Err(Fail::new("a bad line was read"));
             };
+            let fault = anyhow::Error::from(fault);
             let said = format!(in heap; "{fault:?}")?;
             assert_eq!(rt; said.as_str(), wanted);
         }

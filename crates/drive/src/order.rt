@@ -1,11 +1,28 @@
 // What a line asks for.
+use crate::fault::Expected;
+use card::SECTOR_BYTES;
 use cut::Script;
 use history::Call;
+use std::str::FromStr;
 
+// The program `units` has the same two names: to share these lines would take a crate, and an error of its own that both
+// programs turn into theirs.
 #[derive(Clone, Copy)]
 pub enum CipherName {
     Aes256,
     Speck,
+}
+
+impl FromStr for CipherName {
+    type Err = Expected;
+
+    fn from_str(word: &str) -> Result<CipherName, Expected> {
+        match word {
+            "aes256" => Ok(CipherName::Aes256),
+            "speck" => Ok(CipherName::Speck),
+            _ => Err(Expected::Cipher),
+        }
+    }
 }
 
 #[derive(Clone, Copy)]
@@ -14,6 +31,18 @@ pub enum StoreName {
     Journal,
     // The battery card alone.
     Battery,
+}
+
+impl FromStr for StoreName {
+    type Err = Expected;
+
+    fn from_str(word: &str) -> Result<StoreName, Expected> {
+        match word {
+            "journal" => Ok(StoreName::Journal),
+            "battery" => Ok(StoreName::Battery),
+            _ => Err(Expected::Store),
+        }
+    }
 }
 
 // What a drive is made of.
@@ -33,7 +62,7 @@ pub enum Order {
     Dump(u32),
 }
 
-// A call with the bytes that it is given.
+// A call with the bytes that it is given: `Call` only borrows them.
 #[derive(Drop)]
 pub enum Request {
     PowerUp,
@@ -41,7 +70,7 @@ pub enum Request {
     Load(Vec<u8>, Option<Vec<u8>>),
     Format(u32, Vec<u8>),
     Read(u32),
-    Write(u32, [u8; 520]),
+    Write(u32, [u8; SECTOR_BYTES]),
     Claim,
     Begin,
     Step,
@@ -54,8 +83,7 @@ impl Request {
         match self {
             Request::PowerUp => Call::PowerUp,
             Request::Count => Call::Count,
-            Request::Load(first, None) => Call::Load(first, None),
-            Request::Load(first, Some(second)) => Call::Load(first, Some(second)),
+            Request::Load(first, second) => Call::Load(first, second.as_deref()),
             Request::Format(reach, label) => Call::Format(*reach, label),
             Request::Read(n) => Call::Read(*n),
             Request::Write(n, bytes) => Call::Write(*n, bytes),

@@ -1,13 +1,15 @@
 // Reads what the words of a line ask for.
 use crate::fault::Expected;
-use crate::order::{CipherName, Order, Plan, Request, StoreName};
-use cut::Script;
+use crate::order::{Order, Plan, Request};
+use card::SECTOR_BYTES;
+use cut::{Loss, Script};
 use hex_text::HexError;
 use std::alloc::Global;
 
-// The most sectors that a card shows.
+// The limit of a script's line, which `Expected::Sectors` names; a card has its own.
 const MOST_SECTORS: u32 = 4096;
 
+// `units` reads its bytes so too: to share these lines would take a crate and an error of its own.
 fn bytes_at(
     heap: Global,
     words: &[&str],
@@ -18,28 +20,19 @@ fn bytes_at(
     if word.is_empty() {
         return Err(wanted);
     }
-    match hex_text::decode(heap, word) {
-        Ok(bytes) => Ok(bytes),
-        Err(HexError::Memory) => Err(Expected::Memory),
-        Err(_) => Err(wanted),
-    }
+    hex_text::decode(heap, word).map_err(|e| match e {
+        HexError::Memory => Expected::Memory,
+        _ => wanted,
+    })
 }
 
-fn number_at(words: &[&str], place: usize, wanted: Expected) -> Result<u32, Expected> {
-    let Some(number) = words::number(words::at(words, place)) else {
-        return Err(wanted);
-    };
-    match u32::try_from(number) {
-        Ok(number) => Ok(number),
-        Err(_) => Err(wanted),
-    }
-}
-
-fn byte_at(words: &[&str], place: usize, wanted: Expected) -> Result<u8, Expected> {
-    match u8::try_from(number_at(words, place, wanted)?) {
-        Ok(byte) => Ok(byte),
-        Err(_) => Err(wanted),
-    }
+// The decimal number at a place, which has to fit its type.
+fn number_at<T: TryFrom<u64>>(words: &[&str], place: usize, wanted: Expected) -> Result<T, Expected>
+where
+    T::Error: Drop,
+{
+    let number = words::number(words::at(words, place)).ok_or(wanted)?;
+    T::try_from(number).map_err(|_| wanted)
 }
 
 // No word may stand at this place or after it.
@@ -50,29 +43,13 @@ fn ends_at(words: &[&str], place: usize) -> Result<(), Expected> {
     Ok(())
 }
 
-fn cipher_of(word: &str) -> Result<CipherName, Expected> {
-    match word {
-        "aes256" => Ok(CipherName::Aes256),
-        "speck" => Ok(CipherName::Speck),
-        _ => Err(Expected::Cipher),
-    }
-}
-
-fn store_of(word: &str) -> Result<StoreName, Expected> {
-    match word {
-        "journal" => Ok(StoreName::Journal),
-        "battery" => Ok(StoreName::Battery),
-        _ => Err(Expected::Store),
-    }
-}
-
 // The stack that the first line asks for.
 pub(crate) fn plan(words: &[&str]) -> Result<Plan, Expected> {
     if words::at(words, 0) != "stack" {
         return Err(Expected::Stack);
     }
-    let cipher = cipher_of(words::at(words, 1))?;
-    let store = store_of(words::at(words, 2))?;
+    let cipher = words::at(words, 1).parse()?;
+    let store = words::at(words, 2).parse()?;
     let sectors = number_at(words, 3, Expected::Sectors)?;
     if sectors > MOST_SECTORS {
         return Err(Expected::Sectors);
@@ -110,9 +87,9 @@ fn read(words: &[&str]) -> Result<Request, Expected> {
 
 fn write(words: &[&str]) -> Result<Request, Expected> {
     let n = number_at(words, 1, Expected::Number)?;
-    let byte = byte_at(words, 2, Expected::Byte)?;
+    let byte: u8 = number_at(words, 2, Expected::Byte)?;
     ends_at(words, 3)?;
-    Ok(Request::Write(n, [byte; 520]))
+    Ok(Request::Write(n, [byte; SECTOR_BYTES]))
 }
 
 fn alone(words: &[&str], request: Request) -> Result<Request, Expected> {
@@ -139,9 +116,10 @@ fn request(heap: Global, words: &[&str]) -> Result<Request, Expected> {
 
 fn cut(words: &[&str]) -> Result<Order, Expected> {
     let left = number_at(words, 1, Expected::Accesses)?;
-    let kind = byte_at(words, 2, Expected::Kind)?;
+    let kind: u8 = number_at(words, 2, Expected::Kind)?;
     ends_at(words, 3)?;
-    Ok(Order::Cut(Script { left, kind }))
+    let loss = Loss::from(kind);
+    Ok(Order::Cut(Script { left, loss }))
 }
 
 fn dump(words: &[&str]) -> Result<Order, Expected> {

@@ -1,10 +1,9 @@
 -- The examples, each by computation or by a lemma of its format.
-use Rattle.std.proofs.Common.{◌≡◌, ℕ, ◌+◌, ◌-◌, ◌^◌, ◌<◌, ◌≤◌, Bool, true, false, cond, not, ◌&&◌, eqb, ltb, ◌≢◌, List, [], ◌∷◌, ◌++◌, length, get_or, refl, ap, ◌∙◌, ⊎_elim, arith, length-append}
+use Rattle.std.proofs.Common.{◌≡◌, ℕ, ◌+◌, ◌-◌, ◌^◌, ◌<◌, ◌≤◌, Bool, true, false, Some, None, cond, not, ◌&&◌, eqb, ltb, ◌≢◌, List, [], ◌∷◌, ◌++◌, length, get_or, refl, ap, ◌∙◌, ⊎_elim, arith, length-append}
 use Rattle.std.proofs.lemmas.List.{get_or-append_right}
 use Rattle.std.proofs.lemmas.Bool.{cases_Bool, eq-eqb, and_right}
-use Rattle.octets.specs.Little.{Bytes}
-use Rattle.journal.specs.declared.slip.Pending.TheVariants.{Nothing, Two}
-use Rattle.journal.specs.Slips.{all_are, slip_of, slip_bytes}
+use Rattle.octets.specs.Little.{Bytes, all_are}
+use Rattle.journal.specs.Slips.{two, slip_of, slip_bytes}
 use Rattle.journal.specs.Journals.{raised}
 use Rattle.journal.proofs.SlipBytes.{reads}
 use Rattle.trailer.proofs.Fields.{Ranged, decode_encode, encode_sector, valid_says, valid_new}
@@ -23,11 +22,11 @@ lowered xs =
     ∙ ap (λ k. get_or (short_flag ∷ []) k []) (let z : length xs - length xs ≡ 0 = omega arith in z) in
     ap (λ k. all_are 0xa5 (get_or (xs ++ (short_flag ∷ [])) k [])) end ∙ ap (all_are 0xa5) last ∙ not_raised
 
-pub equal_targets : (limit a : ℕ) → a < 2 ^ 32 → slip_of limit (slip_bytes 2 a a) ≡ Nothing
+pub equal_targets : (limit a : ℕ) → a < 2 ^ 32 → slip_of limit (slip_bytes 2 a a) ≡ None
 equal_targets limit a h =
     let no : (ltb a limit && (ltb a limit && not (eqb a a))) ≡ false =
     and_right (ltb a limit) (ltb a limit && not (eqb a a)) (and_right (ltb a limit) (not (eqb a a)) (ap not (eq-eqb a a refl))) in
-    reads limit 2 a a h h ∙ ap (λ (b : Bool). cond b (Two a a) Nothing) no
+    reads limit 2 a a h h ∙ ap (λ (b : Bool). cond b (Some (two a a)) None) no
 
 pub full : (number T R : ℕ) (a b label : List ℕ) → number < 256 → 1 ≤ R → R ≤ T → T + 1 < 2 ^ 32 → Bytes 16 a → Bytes 16 b → Bytes 16 label → a ≢ b
     → (valid number T (encode number (changing R R a b label)) ≡ true) × (valid number T (encode number (changing R (R + 1) a b label)) ≡ false)

@@ -1,13 +1,12 @@
 -- Worked examples, from the definitions that the contracts cite.
-use Rattle.std.specs.Prelude.{◌≡◌, ℕ, ◌+◌, ◌^◌, ◌<◌, ◌≤◌, true, false, ◌≢◌, List, [], ◌∷◌, ◌++◌, replicate}
+use Rattle.std.specs.Prelude.{◌≡◌, ℕ, ◌+◌, ◌^◌, ◌<◌, ◌≤◌, true, false, None, ◌≢◌, List, [], ◌∷◌, ◌++◌, replicate}
 use Rattle.octets.specs.Little.{Bytes, le_number, le_bytes}
 use Rattle.xts.specs.Xts.{doubled}
 use Rattle.aes_tables.specs.Field.{sub}
 use Rattle.speck.specs.Vector as speck
 use Rattle.journal.specs.Journals.{raised}
 use Rattle.journal.specs.Slips.{slip_of, slip_bytes}
-use Rattle.journal.specs.declared.slip.Pending.TheVariants.{Nothing}
-use Rattle.trailer.specs.declared.kept.Stage.TheVariants.{Changing}
+use Rattle.trailer.specs.declared.stage.Stage.TheVariants.{Changing}
 use Rattle.trailer.specs.Trailers.{Fields, encode, valid}
 
 -- the bytes of a tweak doubled
@@ -34,7 +33,7 @@ pub record Worked : Type 0 where
   -- 519 bytes a5 hex and a 0 are a lowered flag, whatever the card's other sectors are
   pub lowered : (xs : List (List ℕ)) → raised (xs ++ (short_flag ∷ [])) ≡ false
   -- a slip of kind 2 with equal targets is not valid
-  pub equal_targets : (limit a : ℕ) → a < 2 ^ 32 → slip_of limit (slip_bytes 2 a a) ≡ Nothing
+  pub equal_targets : (limit a : ℕ) → a < 2 ^ 32 → slip_of limit (slip_bytes 2 a a) ≡ None
   -- a changing trailer whose watermark equals its reach is valid, and with one more is not
   pub full :
       (number T R : ℕ) (a b label : List ℕ) → number < 256 → 1 ≤ R → R ≤ T → T + 1 < 2 ^ 32 → Bytes 16 a → Bytes 16 b → Bytes 16 label → a ≢ b

@@ -1,11 +1,12 @@
 -- Pairs of digits: one more byte of a text, and a text read back.
-use Rattle.std.proofs.Common.{◌≡◌, ℕ, ◌+◌, ◌*◌, ◌/◌, ◌%◌, ◌<◌, ◌≤◌, List, [], ◌∷◌, ◌++◌, length, get_or, drop, sym, refl, ap, ◌∙◌, subst, ap₂, append_assoc, arith, below_more}
+use Rattle.std.proofs.Common.{◌≡◌, ℕ, zero, suc, ◌+◌, ◌*◌, ◌/◌, ◌%◌, ◌<◌, ◌≤◌, List, [], ◌∷◌, ◌++◌, length, get_or, Option, Some, drop, sym, refl, ap, ◌∙◌, subst, ap₂, append_assoc, arith}
 use Rattle.std.proofs.ByRecursion.{All-get_or}
 use Rattle.std.proofs.lemmas.List.{append-nil, drop_all, drop_more}
 use Rattle.std.proofs.lemmas.Bool.Decides.{nat_tests}
 use Rattle.std.specs.List.{AllByRecursion}
+use Rattle.std.specs.Option.{SomeIff}
 use Rattle.std.specs.Char.{digit_char, digit_value}
-use Rattle.hex_text.specs.Texts.{hex_text, hex_bytes, HexDigit, pair_value, Spells}
+use Rattle.hex_text.specs.Texts.{hex_text, hex_bytes, HexDigit, HexDigits, pair_value, Spells}
 
 char_value : (d : ℕ) → d < 16 → digit_value (digit_char d) ≡ d
 char_value d h = grind (arith, nat_tests)
@@ -60,28 +61,43 @@ text_step xs done mid more i h inv e f =
 pub text_all : (xs done : List ℕ) (i : ℕ) → length xs ≤ i → hex_text xs ≡ done ++ hex_text (drop i xs) → done ≡ hex_text xs
 text_all xs done i h inv = sym (inv ∙ ap (λ (t : List ℕ). done ++ hex_text t) (drop_all i xs h) ∙ append-nil done)
 
+-- what is done and the rest make the whole text: what the rest spells comes after what is done, and where each character of the whole is a digit, so is each of the rest
+pub record Goes (text rest done : List ℕ) : Type 0 where
+  pub even : length rest % 2 ≡ 0
+  pub on : (more : List ℕ) → Spells rest more → Spells text (done ++ more)
+  pub all : HexDigits text → HexDigits rest
+
+-- each of the first two is a digit, and so are the others
+two_digits : (a b : ℕ) (rest : List ℕ) → HexDigit a → HexDigit b → HexDigits rest → HexDigits (a ∷ b ∷ rest)
+two_digits a b rest h k d zero l = h
+two_digits a b rest h k d (suc zero) l = k
+two_digits a b rest h k d (suc (suc i)) l = d i (omega arith)
+
+pub goes_first : (text : List ℕ) → length text % 2 ≡ 0 → Goes text text []
+goes_first text e = record { even = e; on = λ more h. h; all = λ h. h }
+
 -- a pair of digits more is decoded
-pub bytes_step : (text done more : List ℕ) (i byte : ℕ) → 2 * i + 1 < length text → hex_bytes text ≡ done ++ hex_bytes (drop (2 * i) text)
-    → byte ≡ pair_value (get_or text (2 * i) 0) (get_or text (2 * i + 1) 0) → more ≡ done ++ byte ∷ []
-    → hex_bytes text ≡ more ++ hex_bytes (drop (2 * (i + 1)) text)
-bytes_step text done more i byte h inv e f =
-    let two : 2 * i + 1 + 1 ≡ 2 * (i + 1) = omega arith in
-    let rest : List ℕ = hex_bytes (drop (2 * (i + 1)) text) in
-    inv ∙ ap (λ (t : List ℕ). done ++ hex_bytes t)
-    (drop_more text (2 * i) 0 (omega arith) ∙ ap (λ (t : List ℕ). get_or text (2 * i) 0 ∷ t) (drop_more text (2 * i + 1) 0 h))
-    ∙ ap₂ (λ (v j : ℕ). done ++ v ∷ hex_bytes (drop j text)) (sym e) two
-    ∙ sym (ap (λ (t : List ℕ). t ++ rest) f ∙ append_assoc done (byte ∷ []) rest)
+goes_on : (text rest done two next more : List ℕ) (byte : ℕ) → Goes text rest done → rest ≡ two ++ next → length two ≡ 2
+    → (HexDigit (get_or two 0 0) × HexDigit (get_or two 1 0)) × (byte ≡ pair_value (get_or two 0 0) (get_or two 1 0)) → more ≡ done ++ byte ∷ [] → Goes text next more
+goes_on text rest done [] next more byte g e l d m = absurd (let z : ⊥ = omega arith in z)
+goes_on text rest done (a ∷ []) next more byte g e l d m = absurd (let z : ⊥ = omega arith in z)
+goes_on text rest done (a ∷ b ∷ c ∷ two) next more byte g e l d m = absurd (let z : ⊥ = omega arith in z)
+goes_on text rest done (a ∷ b ∷ []) next more byte g e l d m =
+    let even : length (a ∷ b ∷ next) % 2 ≡ 0 = subst (λ (t : List ℕ). length t % 2 ≡ 0) e g.even in record {
+      even = omega arith;
+      on = λ rests h. subst (Spells text) (sym (ap (λ (t : List ℕ). t ++ rests) m ∙ append_assoc done (byte ∷ []) rests))
+          (g.on (byte ∷ rests) (subst (λ (t : List ℕ). Spells t (byte ∷ rests)) (sym e)
+          (record { even = even; digits = two_digits a b next d.0.0 d.0.1 h.digits; bytes_are = ap₂ ◌∷◌ d.1 h.bytes_are })));
+      all = λ h k l'. subst HexDigits e (g.all h) (suc (suc k)) (omega arith);
+    }
 
-pub digits_step : (text : List ℕ) (i : ℕ) → ((k : ℕ) → k < 2 * i → HexDigit (get_or text k 0))
-    → HexDigit (get_or text (2 * i) 0) → HexDigit (get_or text (2 * i + 1) 0) → (k : ℕ) → k < 2 * (i + 1) → HexDigit (get_or text k 0)
-digits_step text i below a b k h =
-    let P : ℕ → Type 0 = λ (j : ℕ). HexDigit (get_or text j 0) in
-    below_more P (2 * i + 1) (below_more P (2 * i) below a) b k (omega arith)
+pub goes_more : (text rest done two next more : List ℕ) (read : Option ℕ) (byte : ℕ) → Goes text rest done → rest ≡ two ++ next → length two ≡ 2
+    → SomeIff read (HexDigit (get_or two 0 0) × HexDigit (get_or two 1 0)) (pair_value (get_or two 0 0) (get_or two 1 0)) → read ≡ Some byte → more ≡ done ++ byte ∷ [] → Goes text next more
+goes_more text rest done two next more read byte g e l d is m =
+    goes_on text rest done two next more byte g e l
+    (subst (λ (o : Option ℕ). SomeIff o (HexDigit (get_or two 0 0) × HexDigit (get_or two 1 0)) (pair_value (get_or two 0 0) (get_or two 1 0))) is d) m
 
-pub spells_all : (text done : List ℕ) (i : ℕ) → length text % 2 ≡ 0 → length text / 2 ≤ i → hex_bytes text ≡ done ++ hex_bytes (drop (2 * i) text)
-    → ((k : ℕ) → k < 2 * i → HexDigit (get_or text k 0)) → Spells text done
-spells_all text done i e h inv below = record {
-  even = e;
-  digits = λ k l. below k (omega arith);
-  bytes_are = sym (inv ∙ ap (λ (t : List ℕ). done ++ hex_bytes t) (drop_all (2 * i) text (omega arith)) ∙ append-nil done);
-}
+pub goes_end : (text rest done : List ℕ) → Goes text rest done → length rest < 2 → Spells text done
+goes_end text [] done g l = subst (Spells text) (append-nil done) (g.on [] (record { even = refl; digits = λ k h. absurd (let z : ⊥ = omega arith in z); bytes_are = refl }))
+goes_end text (a ∷ []) done g l = let e = g.even in absurd (let z : ⊥ = omega arith in z)
+goes_end text (a ∷ b ∷ rest) done g l = absurd (let z : ⊥ = omega arith in z)

@@ -18,6 +18,7 @@ pub enum HexError {
     Memory,
 }
 
+// Both written by hand, since a derived From does not say which error it makes.
 impl From<AllocError> for HexError {
     ghost from_gives = { λ _ r. r ≡ noMemory };
 
@@ -38,11 +39,7 @@ fn digit(value: u8) -> char
     requires { value < 16 }
     ensures { result ≡ digit_char value }
 {
-    if value < 10 {
-        (b'0' + value) as char
-    } else {
-        (b'a' + (value - 10)) as char
-    }
+    char::from_digit(u32::from(value), 16).unwrap()
 }
 
 // Two lower-case digits for each byte, the high one first.
@@ -68,18 +65,16 @@ fn pair(high: u8, low: u8) -> Option<u8>
 }
 
 // The bytes of a text of digits in either case; a text of odd length is refused before its characters are looked at.
+#[tactic(auto, using(crate::proofs::Pairs::goes_first))]
 pub fn decode(heap: Global, text: &str) -> Result<Vec<u8>, HexError>
     ensures { MatchResult result (λ v. Spells text.now v.items) (λ e. Unfit text.now e) }
 {
-    let digits = text.as_bytes();
-    if digits.len() % 2 != 0 {
+    if text.len() % 2 != 0 {
         return Err(HexError::OddLength);
     }
     let mut bytes = Vec::new(heap);
-    for i in 0..digits.len() / 2 {
-        let Some(byte) = pair(digits[2 * i], digits[2 * i + 1]) else {
-            return Err(HexError::NoDigit);
-        };
+    for digits in text.as_bytes().chunks_exact(2) {
+        let byte = pair(digits[0], digits[1]).ok_or(HexError::NoDigit)?;
         bytes.push(byte)?;
     }
     Ok(bytes)

@@ -1,3 +1,1 @@
-pub mod Working
-pub mod Outs
 pub mod Plays

@@ -2,7 +2,7 @@
 use Rattle.std.proofs.Common.{◌≡◌, ℕ, ◌+◌, ◌<◌, ◌≤◌, Bool, List, [], ◌∷◌, ◌++◌, length, get_or, take, Some, None, Option, sym, refl, ap, ◌∙◌, subst, take_all}
 use Rattle.std.specs.List.{AllByRecursion}
 use Rattle.std.proofs.lemmas.List.{take_more, append_assoc, append-nil}
-use Rattle.trailer.specs.declared.kept.Stage.{Stage}
+use Rattle.trailer.specs.declared.stage.Stage.{Stage}
 use Rattle.law.specs.Suites.{Suite, Proper}
 use Rattle.law.specs.States.{State, Steady}
 use Rattle.law.specs.Runs as runs

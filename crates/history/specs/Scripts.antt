@@ -2,8 +2,8 @@
 use Rattle.std.specs.Prelude.{◌≡◌, ℕ, Bool, true, cond, List, [], ◌∷◌, ◌++◌, length, replicate, is_some, Some, None, Ok, Err, Option, Result, ◌==◌}
 use Rattle.std.specs.List.{AllByRecursion}
 use Rattle.refusal.specs.declared.Refusal.{Refusal}
-use Rattle.trailer.specs.declared.kept.Stage.{Stage}
-use Rattle.trailer.specs.declared.kept.Stage.TheVariants.{Resting, Changing}
+use Rattle.trailer.specs.declared.stage.Stage.{Stage}
+use Rattle.trailer.specs.declared.stage.Stage.TheVariants.{Resting, Changing}
 use Rattle.law.specs.Suites.{Suite}
 use Rattle.law.specs.States.{State, Steady}
 use Rattle.law.specs.Runs as runs
@@ -11,7 +11,7 @@ use Rattle.law.specs.Runs.{Event, History, Given, Does, Run, Starts, end_of, eve
 use Rattle.law.specs.Law.{Distinct, Lawful, Formats}
 use Rattle.volume.specs.Answers.{given_keys}
 use Rattle.volume.specs.declared.permits.Permit.{Permit}
-use Rattle.volume.specs.declared.permits.Permit.TheVariants as permit
+use Rattle.volume.specs.Permits.{stage_held}
 use Rattle.history.specs.declared.script.Call.{Call}
 use Rattle.history.specs.declared.script.Call.TheVariants as call
 use Rattle.history.specs.declared.script.Entry.{Entry}
@@ -62,8 +62,7 @@ told_all size (e ∷ es) = listed (told size e) ++ told_all size es
 -- the stage of the permit that is held, if one is
 abbrev pub held_stage : Option Permit → Option Stage
 held_stage None = None
-held_stage (Some (permit.Resting p)) = Some Resting
-held_stage (Some (permit.Changing p)) = Some Changing
+held_stage (Some p) = Some (stage_held p)
 
 -- the permit that a call takes is not held
 abbrev pub Lacks : Call → Option Stage → Type 0

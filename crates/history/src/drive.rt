@@ -3,7 +3,7 @@ ghost use Rattle.std.specs.Prelude.{◌≡◌, is_some};
 
 use volume::{Permit, Volume};
 
-// Whoever holds the volume holds its permit too, from a claim to the hand-in.
+// Whoever holds the volume holds its permit too, from a claim to the hand-in. No Model: `below` lends the store itself.
 #[derive(Drop)]
 pub struct Drive<K, S> {
     pub(crate) volume: Volume<K, S>,

@@ -2,7 +2,7 @@
 use Rattle.std.proofs.Common.{◌≡◌, ℕ, ◌-◌, ◌<◌, List, Ok, Err, Result, sym, ap, ◌∙◌, subst, arith}
 use Rattle.refusal.specs.declared.Refusal.{Refusal}
 use Rattle.card.specs.Meaning.{Meaning, count, at}
-use Rattle.card.proofs.Refusals.{refused_map, refused_any}
+use Rattle.card.proofs.Refusals.{refused_map}
 use Rattle.card.specs.Calls.{ReadAt}
 use Rattle.journal.specs.Journals.{journal_of, pending_of}
 use Rattle.journal.specs.Steps.{place_of}
@@ -17,8 +17,3 @@ shows m n k j b d (Err x) h e w =
 
 pub read_shows : (m o n : Meaning) (k j : ℕ) (b d : List ℕ) (r : Result (Unit {0}) Refusal) → o ≡ m → k < count m - 4 → j ≡ place_of (pending_of m.sectors) (count m) k → ReadAt o n j b d r → ReadAt (journal_of m) (journal_of n) k b d r
 read_shows m o n k j b d r q h e w = shows m n k j b d r h e (subst (λ (z : Meaning). ReadAt z n j b d r) q w)
-
-pub read_keeps : (m o n : Meaning) (j : ℕ) (b d : List ℕ) (r : Result (Unit {0}) Refusal) → o ≡ m → ReadAt o n j b d r → n.sectors ≡ m.sectors
-read_keeps m o n j b d (Ok _) q w = ap (λ z. z.sectors) (w.3 ∙ q)
-read_keeps m o n j b d (Err x) q w =
-    refused_any x (λ w. ap (λ z. z.sectors) (w.1 ∙ q)) (λ w. ap (λ z. z.sectors) w.1 ∙ ap (λ z. z.sectors) q) (λ w. ap (λ z. z.sectors) (w.3 ∙ q)) w

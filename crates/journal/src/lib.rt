@@ -8,20 +8,28 @@
 #![tactic(auto)]
 
 ghost use Rattle.std.specs.Borrow.{follows, sem};
-ghost use Rattle.std.specs.Prelude.{◌≡◌, ◌-◌, ◌<◌, ◌≤◌, ◌≢◌, length};
-ghost use Rattle.card.specs.Meaning.{count, at, put};
+ghost use Rattle.std.specs.Prelude.{◌≡◌, ◌-◌, ◌<◌, ◌≢◌, Some, None, MatchResult, length};
+ghost use Rattle.card.specs.Meaning.{count, at};
 ghost use Rattle.card.specs.Calls.{PoweredUp, ReadAt, WroteAt, PutOne, PutTwo};
 ghost use Rattle.journal.specs.contracts.Journal.{the_row};
-ghost use Rattle.journal.specs.Journals.{journal_of, shown_under, Idle};
-ghost use Rattle.journal.specs.Steps.{Looked, Pended, WroteUnseen, Settled, FlagRaised, Committed, Staged, Unseen, FlagUp, FlagDown, Ready, journal_under, place_of};
+ghost use Rattle.journal.specs.Journals.{journal_of, meaning_of, raised, slip as slip_in, pending_of, Idle};
+ghost use Rattle.journal.specs.Steps.{IsLayout, LaidOut, Looked, WroteUnseen, WroteAll, AllUnseen, Copied, Replayed, Settled, FlagRaised, Staged, Made, Unseen, FlagUp, FlagDown, Ready, Fit, journal_under, place_of, targets_of, wrote};
 ghost use Rattle.journal.specs.Shows.{journal_sound};
 
-use card::{Card, WholeStore};
+use card::{Card, SECTOR_BYTES, WholeStore};
+use octets::all_are;
 use refusal::Refusal;
 
+mod layout;
+mod put;
 mod slip;
 
-use slip::Pending;
+use layout::Layout;
+use put::{Put, Write};
+use slip::Targets;
+
+// Each byte of a flag that is raised.
+const RAISED: u8 = 0xa5;
 
 #[derive(Drop)]
 pub struct Journal<C> {
@@ -38,67 +46,89 @@ impl<C> Journal<C> {
 
     // The card below, lent.
     pub fn below(&mut self) -> &mut C
-        ensures* { sem 𝓛 (follows (the_row C.row) C.row self.entry.ghost_name result.ghost_name (λ w. record { card = w })) }
+        ensures lent { result.now ≡ self.old.card }
+        ensures* lends { sem 𝓛 (follows (the_row C.row) C.row self.entry.ghost_name result.ghost_name (λ w. record { card = w })) }
     {
         &mut self.card
     }
 }
 
-// The sector of the total below that shows at n while p is pending.
-fn place(p: Pending, total: u32, n: u32) -> u32
-    requires { 4 ≤ total }
-    ensures { result ≡ place_of p total n }
+// A buffer of the bytes of a sector.
+fn sector(bytes: &[u8]) -> Result<&[u8; SECTOR_BYTES], Refusal>
+    ensures { MatchResult result (λ s. (s.now ≡ bytes.now) × (length bytes.now ≡ 520)) (λ e. (e ≡ Refusal.WrongLength) × (length bytes.now ≢ 520)) }
 {
-    match p {
-        Pending::Nothing => n,
-        Pending::One(a) => { if n == a { total - 4 } else { n } }
-        Pending::Two(a, b) => {
-            if n == b {
-                total - 3
-            } else if n == a {
-                total - 4
-            } else {
-                n
-            }
-        }
+    bytes.as_array().ok_or(Refusal::WrongLength)
+}
+
+// The sector below that shows at n.
+fn place(pending: Option<Targets>, layout: Layout, n: u32) -> u32
+    ensures { result ≡ place_of pending layout.total n }
+{
+    match pending {
+        Some(targets) if targets.second == Some(n) => layout.second_spare(),
+        Some(targets) if targets.first == n => layout.first_spare(),
+        _ => n,
     }
 }
 
 impl<C: Card> Journal<C> {
-    // Reads the flag, and the slip where the flag is raised: none where it is lowered, nothing where the slip is not valid.
-    fn look(&mut self, total: u32) -> Result<Option<Pending>, Refusal>
-        requires is { total ≡ count (C.Card.meaning self.old.card) }
-        requires room { 5 ≤ total }
-        ensures { Looked (C.Card.meaning self.old.card) (C.Card.meaning self.new.card) result }
+    // Counts the sectors below. Fewer than five hold no journal.
+    #[tactic(auto, using(crate::specs::Shows::shown_length))]
+    fn layout(&mut self) -> Result<Layout, Refusal>
+        ensures { LaidOut (C.Card.meaning self.old.card) (C.Card.meaning self.new.card) result }
     {
-        let mut buf = [0u8; 520];
-        self.card.read(total - 1, &mut buf)?;
-        if !slip::all_are(&buf, 165) {
-            return Ok(None);
-        }
-        self.card.read(total - 2, &mut buf)?;
-        Ok(Some(slip::slip_of(total - 4, &buf)))
+        let total = self.card.count()?;
+        Layout::of(total).ok_or(Refusal::OutOfRange)
+    }
+
+    fn is_raised(&mut self, layout: Layout) -> Result<bool, Refusal>
+        requires { IsLayout layout (C.Card.meaning self.old.card) }
+        ensures { Looked (C.Card.meaning self.old.card) (C.Card.meaning self.new.card) (raised (C.Card.meaning self.old.card).sectors) result }
+    {
+        let mut flag = [0u8; SECTOR_BYTES];
+        self.card.read(layout.flag(), &mut flag)?;
+        Ok(all_are(&flag, RAISED))
+    }
+
+    // Which targets the slip says: none where it is not valid.
+    fn targets(&mut self, layout: Layout) -> Result<Option<Targets>, Refusal>
+        requires { IsLayout layout (C.Card.meaning self.old.card) }
+        ensures { Looked (C.Card.meaning self.old.card) (C.Card.meaning self.new.card) (slip_in (C.Card.meaning self.old.card).sectors) result }
+    {
+        let mut slip = [0u8; SECTOR_BYTES];
+        self.card.read(layout.slip(), &mut slip)?;
+        Ok(Targets::of_slip(layout.places(), &slip))
     }
 
     // Which targets are pending.
-    fn pending(&mut self, total: u32) -> Result<Pending, Refusal>
-        requires is { total ≡ count (C.Card.meaning self.old.card) }
-        requires room { 5 ≤ total }
-        ensures { Pended (C.Card.meaning self.old.card) (C.Card.meaning self.new.card) result }
+    fn pending(&mut self, layout: Layout) -> Result<Option<Targets>, Refusal>
+        requires { IsLayout layout (C.Card.meaning self.old.card) }
+        ensures { Looked (C.Card.meaning self.old.card) (C.Card.meaning self.new.card) (pending_of (C.Card.meaning self.old.card).sectors) result }
     {
-        match self.look(total)? {
-            None => Ok(Pending::Nothing),
-            Some(p) => Ok(p),
+        if !self.is_raised(layout)? {
+            return Ok(None);
         }
+        self.targets(layout)
     }
 
     // A write that does not show, whatever it leaves where the power fails in it.
-    fn write_unseen(&mut self, n: u32, bytes: &[u8]) -> Result<(), Refusal>
-        requires still { Unseen (C.Card.meaning self.old.card) n }
-        requires long { length bytes.now ≡ 520 }
+    fn write_unseen(&mut self, n: u32, bytes: &[u8; SECTOR_BYTES]) -> Result<(), Refusal>
+        requires { Unseen (C.Card.meaning self.old.card) n }
         ensures { WroteUnseen (C.Card.meaning self.old.card) (C.Card.meaning self.new.card) n bytes.now result }
     {
         self.card.write(n, bytes)
+    }
+
+    // The writes of a put, where they do not show.
+    fn write_all(&mut self, put: Put) -> Result<(), Refusal>
+        requires { AllUnseen (C.Card.meaning self.old.card) put }
+        ensures { WroteAll (C.Card.meaning self.old.card) (C.Card.meaning self.new.card) put.entry result }
+    {
+        self.write_unseen(put.first.n, put.first.bytes)?;
+        match put.second {
+            None => Ok(()),
+            Some(second) => self.write_unseen(second.n, second.bytes),
+        }
     }
 
     // A copy that does not show.
@@ -107,117 +137,96 @@ impl<C: Card> Journal<C> {
         requires still { Unseen (C.Card.meaning self.old.card) to }
         ensures { WroteUnseen (C.Card.meaning self.old.card) (C.Card.meaning self.new.card) to (at (C.Card.meaning self.old.card) from) result }
     {
-        let mut buf = [0u8; 520];
-        self.card.read(from, &mut buf)?;
-        self.write_unseen(to, &buf)
+        let mut bytes = [0u8; SECTOR_BYTES];
+        self.card.read(from, &mut bytes)?;
+        self.write_unseen(to, &bytes)
+    }
+
+    // Copies the spares to their targets.
+    fn replay(&mut self, layout: Layout, targets: Targets) -> Result<(), Refusal>
+        requires { FlagUp (C.Card.meaning self.old.card) layout.total (Some targets) }
+        ensures { Replayed (C.Card.meaning self.old.card) (C.Card.meaning self.new.card) layout.total result }
+    {
+        self.copy_unseen(layout.first_spare(), targets.first)?;
+        match targets.second {
+            None => Ok(()),
+            Some(second) => self.copy_unseen(layout.second_spare(), second),
+        }
     }
 
     // Lowers the flag, where the targets hold what the spares do.
-    fn lower(&mut self, total: u32, p: Pending) -> Result<(), Refusal>
-        requires up { FlagUp (C.Card.meaning self.old.card) total p }
-        requires copied { shown_under p (C.Card.meaning self.old.card).sectors ≡ shown_under Pending.Nothing (C.Card.meaning self.old.card).sectors }
+    #[tactic(auto, using(crate::proofs::Settles::unseen_flag))]
+    fn lower(&mut self, layout: Layout) -> Result<(), Refusal>
+        requires { Copied (C.Card.meaning self.old.card) layout.total }
         ensures { Settled (C.Card.meaning self.old.card) (C.Card.meaning self.new.card) result }
     {
-        self.write_unseen(total - 1, &[0u8; 520])
-    }
-
-    // Copies the spares to their targets and lowers the flag; a slip that is not valid has no targets.
-    fn replay(&mut self, total: u32, p: Pending) -> Result<(), Refusal>
-        requires { FlagUp (C.Card.meaning self.old.card) total p }
-        ensures { Settled (C.Card.meaning self.old.card) (C.Card.meaning self.new.card) result }
-    {
-        match p {
-            Pending::Nothing => self.lower(total, p),
-            Pending::One(a) => {
-                self.copy_unseen(total - 4, a)?;
-                self.lower(total, p)
-            }
-            Pending::Two(a, b) => {
-                self.copy_unseen(total - 4, a)?;
-                self.copy_unseen(total - 3, b)?;
-                self.lower(total, p)
-            }
-        }
+        self.write_unseen(layout.flag(), &[0u8; SECTOR_BYTES])
     }
 
     // Finishes what is pending. The slip may be written again only once the flag is lowered.
-    fn settle(&mut self, total: u32) -> Result<(), Refusal>
-        requires is { total ≡ count (C.Card.meaning self.old.card) }
-        requires room { 5 ≤ total }
+    fn settle(&mut self, layout: Layout) -> Result<(), Refusal>
+        requires { IsLayout layout (C.Card.meaning self.old.card) }
         ensures { Settled (C.Card.meaning self.old.card) (C.Card.meaning self.new.card) result }
     {
-        match self.look(total)? {
-            None => Ok(()),
-            Some(p) => self.replay(total, p),
+        if !self.is_raised(layout)? {
+            return Ok(());
+        }
+        match self.targets(layout)? {
+            None => self.lower(layout),
+            Some(targets) => {
+                self.replay(layout, targets)?;
+                self.lower(layout)
+            }
         }
     }
 
-    // Writes the spare, then the slip, while the flag is lowered: nothing shows.
-    fn stage_one(&mut self, total: u32, n: u32, bytes: &[u8]) -> Result<(), Refusal>
-        requires down { FlagDown (C.Card.meaning self.old.card) total }
-        requires within { n < total - 4 }
-        requires long { length bytes.now ≡ 520 }
-        ensures { Staged (C.Card.meaning self.old.card) (C.Card.meaning self.new.card) total (Pending.One n) (put (journal_of (C.Card.meaning self.old.card)) n bytes.now) result }
+    // Writes the spares, then the slip, while the flag is lowered: nothing shows.
+    fn stage(&mut self, layout: Layout, put: Put) -> Result<(), Refusal>
+        requires down { FlagDown (C.Card.meaning self.old.card) layout.total }
+        requires fit { Fit (layout.total - 4) (Some (targets_of put)) }
+        ensures { Staged (C.Card.meaning self.old.card) (C.Card.meaning self.new.card) layout.total (Some (targets_of put.entry)) (wrote (journal_of (C.Card.meaning self.old.card)) put.entry) result }
     {
-        self.write_unseen(total - 4, bytes)?;
-        self.write_unseen(total - 2, &slip::slip_for(1, n, 0))
-    }
-
-    // The same for two sectors.
-    fn stage_two(&mut self, total: u32, a: u32, x: &[u8], b: u32, y: &[u8]) -> Result<(), Refusal>
-        requires down { FlagDown (C.Card.meaning self.old.card) total }
-        requires first { a < total - 4 }
-        requires second { b < total - 4 }
-        requires apart { a ≢ b }
-        requires x_long { length x.now ≡ 520 }
-        requires y_long { length y.now ≡ 520 }
-        ensures { Staged (C.Card.meaning self.old.card) (C.Card.meaning self.new.card) total (Pending.Two a b) (put (put (journal_of (C.Card.meaning self.old.card)) a x.now) b y.now) result }
-    {
-        self.write_unseen(total - 4, x)?;
-        self.write_unseen(total - 3, y)?;
-        self.write_unseen(total - 2, &slip::slip_for(2, a, b))
+        self.write_all(put.on_spares(layout))?;
+        self.write_unseen(layout.slip(), &put.targets().slip())
     }
 
     // Raises the flag: from here on, what the slip says shows.
-    fn raise(&mut self, total: u32, p: Pending) -> Result<(), Refusal>
-        requires { Ready (C.Card.meaning self.old.card) total p }
-        ensures { FlagRaised (C.Card.meaning self.old.card) (C.Card.meaning self.new.card) total p result }
+    fn raise(&mut self, layout: Layout) -> Result<(), Refusal>
+        requires { FlagDown (C.Card.meaning self.old.card) layout.total }
+        ensures { FlagRaised (C.Card.meaning self.old.card) (C.Card.meaning self.new.card) layout.total (slip_in (C.Card.meaning self.old.card).sectors) result }
     {
-        self.card.write(total - 1, &[165u8; 520])
+        self.card.write(layout.flag(), &[RAISED; SECTOR_BYTES])
     }
 
-    // Makes a staged put of one sector show: the flag is raised, the place is written, and the flag is lowered.
-    fn commit_one(&mut self, total: u32, n: u32, bytes: &[u8]) -> Result<(), Refusal>
-        requires ready { Ready (C.Card.meaning self.old.card) total (Pending.One n) }
-        requires spared { journal_under (Pending.One n) (C.Card.meaning self.old.card) ≡ put (journal_of (C.Card.meaning self.old.card)) n bytes.now }
-        requires long { length bytes.now ≡ 520 }
-        ensures { Committed (C.Card.meaning self.old.card) (C.Card.meaning self.new.card) (Pending.One n) result }
+    // Makes a staged put show: the flag is raised, the places are written, and the flag is lowered.
+    fn commit(&mut self, layout: Layout, put: Put) -> Result<(), Refusal>
+        requires ready { Ready (C.Card.meaning self.old.card) layout.total (Some (targets_of put)) }
+        requires spared { journal_under (Some (targets_of put)) (C.Card.meaning self.old.card) ≡ wrote (journal_of (C.Card.meaning self.old.card)) put }
+        ensures { Made (C.Card.meaning self.old.card) (C.Card.meaning self.new.card) (wrote (journal_of (C.Card.meaning self.old.card)) put.entry) result }
     {
-        self.raise(total, Pending::One(n))?;
-        self.write_unseen(n, bytes)?;
-        self.lower(total, Pending::One(n))
+        self.raise(layout)?;
+        self.write_all(put)?;
+        self.lower(layout)
     }
 
-    // The same for two sectors.
-    fn commit_two(&mut self, total: u32, a: u32, x: &[u8], b: u32, y: &[u8]) -> Result<(), Refusal>
-        requires ready { Ready (C.Card.meaning self.old.card) total (Pending.Two a b) }
-        requires spared { journal_under (Pending.Two a b) (C.Card.meaning self.old.card) ≡ put (put (journal_of (C.Card.meaning self.old.card)) a x.now) b y.now }
-        requires x_long { length x.now ≡ 520 }
-        requires y_long { length y.now ≡ 520 }
-        ensures { Committed (C.Card.meaning self.old.card) (C.Card.meaning self.new.card) (Pending.Two a b) result }
+    // A whole put.
+    fn make(&mut self, layout: Layout, put: Put) -> Result<(), Refusal>
+        requires is { IsLayout layout (C.Card.meaning self.old.card) }
+        requires fit { Fit (layout.total - 4) (Some (targets_of put)) }
+        ensures { Made (C.Card.meaning self.old.card) (C.Card.meaning self.new.card) (wrote (journal_of (C.Card.meaning self.old.card)) put.entry) result }
     {
-        self.raise(total, Pending::Two(a, b))?;
-        self.write_unseen(a, x)?;
-        self.write_unseen(b, y)?;
-        self.lower(total, Pending::Two(a, b))
+        self.settle(layout)?;
+        self.stage(layout, put)?;
+        self.commit(layout, put)
     }
 }
 
 impl<C: Card> Card for Journal<C> {
-    ghost meaning = { λ j. journal_of (C.Card.meaning j.card) };
+    ghost meaning = { meaning_of C.Card.meaning };
 
     ghost sound = { λ c. journal_sound _ (C.Card.sound c.card) };
 
+    #[tactic(auto, using(crate::specs::Shows::shown_length))]
     fn count(&mut self) -> Result<u32, Refusal> {
         let total = self.card.count()?;
         Ok(total.saturating_sub(4))
@@ -225,37 +234,36 @@ impl<C: Card> Card for Journal<C> {
 
     // Settles too, so that no put is pending once the power is on. Fewer than five sectors hold no journal.
     fn power_up(&mut self) -> Result<(), Refusal>
-        ensures shows { PoweredUp (journal_of (C.Card.meaning self.old.card)) (journal_of (C.Card.meaning self.new.card)) result }
+        ensures shows { PoweredUp (meaning_of C.Card.meaning self.old) (meaning_of C.Card.meaning self.new) result }
         ensures settles { Idle (C.Card.meaning self.new.card) result }
     {
         self.card.power_up()?;
-        let total = self.card.count()?;
-        if total < 5 {
-            return Ok(());
+        match Layout::of(self.card.count()?) {
+            None => Ok(()),
+            Some(layout) => self.settle(layout),
         }
-        self.settle(total)
     }
 
     // Writes nothing below, also where a put is pending.
     fn read(&mut self, n: u32, buf: &mut [u8]) -> Result<(), Refusal>
-        ensures shows { ReadAt (journal_of (C.Card.meaning self.old.card)) (journal_of (C.Card.meaning self.new.card)) n buf.old buf.new result }
+        ensures shows { ReadAt (meaning_of C.Card.meaning self.old) (meaning_of C.Card.meaning self.new) n buf.old buf.new result }
         ensures keeps { (C.Card.meaning self.new.card).sectors ≡ (C.Card.meaning self.old.card).sectors }
     {
-        if buf.len() != 520 {
+        if buf.len() != SECTOR_BYTES {
             return Err(Refusal::WrongLength);
         }
-        let total = self.card.count()?;
-        if total < 5 || n >= total - 4 {
+        let layout = self.layout()?;
+        if n >= layout.places() {
             return Err(Refusal::OutOfRange);
         }
-        let p = self.pending(total)?;
-        self.card.read(place(p, total, n), buf)
+        let pending = self.pending(layout)?;
+        self.card.read(place(pending, layout, n), buf)
     }
 
     // A put of one sector, so it is whole too where the power fails in it.
     fn write(&mut self, n: u32, bytes: &[u8]) -> Result<(), Refusal>
-        ensures shows { WroteAt (journal_of (C.Card.meaning self.old.card)) (journal_of (C.Card.meaning self.new.card)) n bytes.now result }
-        ensures whole { PutOne (journal_of (C.Card.meaning self.old.card)) (journal_of (C.Card.meaning self.new.card)) n bytes.now result }
+        ensures shows { WroteAt (meaning_of C.Card.meaning self.old) (meaning_of C.Card.meaning self.new) n bytes.now result }
+        ensures whole { PutOne (meaning_of C.Card.meaning self.old) (meaning_of C.Card.meaning self.new) n bytes.now result }
         ensures settles { Idle (C.Card.meaning self.new.card) result }
     {
         self.put_one(n, bytes)
@@ -264,34 +272,42 @@ impl<C: Card> Card for Journal<C> {
 
 impl<C: Card> WholeStore for Journal<C> {
     fn put_one(&mut self, n: u32, bytes: &[u8]) -> Result<(), Refusal>
-        ensures shows { PutOne (journal_of (C.Card.meaning self.old.card)) (journal_of (C.Card.meaning self.new.card)) n bytes.now result }
+        ensures shows { PutOne (meaning_of C.Card.meaning self.old) (meaning_of C.Card.meaning self.new) n bytes.now result }
         ensures settles { Idle (C.Card.meaning self.new.card) result }
     {
-        if bytes.len() != 520 {
-            return Err(Refusal::WrongLength);
-        }
-        let total = self.card.count()?;
-        if total < 5 || n >= total - 4 {
+        let bytes = sector(bytes)?;
+        let layout = self.layout()?;
+        if n >= layout.places() {
             return Err(Refusal::OutOfRange);
         }
-        self.settle(total)?;
-        self.stage_one(total, n, bytes)?;
-        self.commit_one(total, n, bytes)
+        let first = Write { n, bytes };
+        self.make(
+            layout,
+            Put {
+                first,
+                second: None,
+            },
+        )
     }
 
     fn put_two(&mut self, a: u32, x: &[u8], b: u32, y: &[u8]) -> Result<(), Refusal>
-        ensures shows { PutTwo (journal_of (C.Card.meaning self.old.card)) (journal_of (C.Card.meaning self.new.card)) a x.now b y.now result }
+        ensures shows { PutTwo (meaning_of C.Card.meaning self.old) (meaning_of C.Card.meaning self.new) a x.now b y.now result }
         ensures settles { Idle (C.Card.meaning self.new.card) result }
     {
-        if x.len() != 520 || y.len() != 520 {
-            return Err(Refusal::WrongLength);
-        }
-        let total = self.card.count()?;
-        if total < 5 || a >= total - 4 || b >= total - 4 || a == b {
+        let x = sector(x)?;
+        let y = sector(y)?;
+        let layout = self.layout()?;
+        if a >= layout.places() || b >= layout.places() || a == b {
             return Err(Refusal::OutOfRange);
         }
-        self.settle(total)?;
-        self.stage_two(total, a, x, b, y)?;
-        self.commit_two(total, a, x, b, y)
+        let first = Write { n: a, bytes: x };
+        let second = Write { n: b, bytes: y };
+        self.make(
+            layout,
+            Put {
+                first,
+                second: Some(second),
+            },
+        )
     }
 }

@@ -1,8 +1,14 @@
 -- The loaded keys as a list of their bytes.
 use Rattle.std.specs.Prelude.{ℕ, List, [], ◌∷◌, Some, None, Option}
 use Rattle.std.specs.Borrow.{Bor}
+use Rattle.law.specs.Suites.{Suite, suite}
+use Rattle.keys.specs.declared.LoadedKey.{Ghosts}
 use Rattle.keys.specs.declared.ring.Keyring.{Keyring}
 use Rattle.keys.specs.declared.ring.Keyring.TheVariants.{Empty, One, Two}
+
+-- the cipher of a kind of loaded key
+abbrev pub suite_of : {K : Type 0} → Ghosts K → Suite
+suite_of k = suite k.numbered k.forward k.back
 
 -- in the order loaded
 abbrev pub keys_of : {K : Type 0} → (K → List ℕ) → Keyring K → List (List ℕ)

@@ -7,15 +7,19 @@ ghost use Rattle.cipher.specs.Maps.{Maps, Inverse};
 ghost use Rattle.xts.specs.Xts.{encipher, decipher, check as checkOf};
 ghost use Rattle.xts.specs.Calls.{Taken, Makes, unit_demands};
 
+use aes::Aes;
 use refusal::Refusal;
+use speck::Speck;
 
-mod aes_key;
+mod checked;
 mod ring;
-mod speck_key;
 
-pub use aes_key::AesKey;
+pub use checked::CheckedKey;
 pub use ring::Keyring;
-pub use speck_key::SpeckKey;
+
+pub type AesKey = CheckedKey<Aes>;
+
+pub type SpeckKey = CheckedKey<Speck>;
 
 // A key of 64 bytes under one cipher, ready for use.
 pub trait LoadedKey: Sized {

@@ -4,8 +4,8 @@ use Rattle.std.proofs.lemmas.Bool.{lt-ltb, le-ltb, eq-eqb, ne_eqb}
 use Rattle.std.specs.List.{AllByRecursion}
 use Rattle.octets.specs.Little.{Bytes}
 use Rattle.card.specs.Meaning.{Sound, off}
-use Rattle.trailer.specs.declared.kept.Stage.{Stage}
-use Rattle.trailer.specs.declared.kept.Stage.TheVariants.{Resting, Changing}
+use Rattle.trailer.specs.declared.stage.Stage.{Stage}
+use Rattle.trailer.specs.declared.stage.Stage.TheVariants.{Resting, Changing}
 use Rattle.trailer.specs.Trailers as trailers
 use Rattle.trailer.specs.Trailers.{encode, fresh}
 use Rattle.trailer.proofs.Fields.{Staged, zeros}

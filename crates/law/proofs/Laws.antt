@@ -3,8 +3,8 @@ use Rattle.std.proofs.Common.{◌≡◌, ℕ, ◌<◌, ◌≤◌, Bool, true, fa
 use Rattle.std.proofs.lemmas.Bool.{true≢false}
 use Rattle.refusal.specs.declared.Refusal.{Refusal}
 use Rattle.card.specs.Meaning.{at}
-use Rattle.trailer.specs.declared.kept.Stage.{Stage}
-use Rattle.trailer.specs.declared.kept.Stage.TheVariants.{Changing}
+use Rattle.trailer.specs.declared.stage.Stage.{Stage}
+use Rattle.trailer.specs.declared.stage.Stage.TheVariants.{Changing}
 use Rattle.trailer.specs.Trailers.{Fields, named}
 use Rattle.trailer.proofs.Fields.{Staged}
 use Rattle.law.specs.Suites.{Suite, Proper, opened}

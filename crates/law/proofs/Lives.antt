@@ -9,8 +9,8 @@ use Rattle.octets.proofs.Lists.{part_bytes, append_bytes, xored_bytes, xored_twi
 use Rattle.card.specs.Meaning.{Sector, put}
 use Rattle.cipher.specs.Maps.{Maps}
 use Rattle.xts.specs.Xts as xts
-use Rattle.trailer.specs.declared.kept.Stage.{Stage}
-use Rattle.trailer.specs.declared.kept.Stage.TheVariants.{Resting, Changing}
+use Rattle.trailer.specs.declared.stage.Stage.{Stage}
+use Rattle.trailer.specs.declared.stage.Stage.TheVariants.{Resting, Changing}
 use Rattle.trailer.specs.Trailers.{Fields, fresh, begun, moved}
 use Rattle.trailer.specs.Trailers as trailers
 use Rattle.trailer.proofs.Fields.{zeros}

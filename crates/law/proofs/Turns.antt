@@ -2,8 +2,8 @@
 use Rattle.std.proofs.Common.{◌≡◌, ℕ, ◌+◌, ◌-◌, ◌^◌, ◌<◌, ◌≤◌, true, false, ltb, ◌≢◌, List, [], length, get_or, set, sym, ap, ◌∙◌, subst, ⊎_elim, arith, length-set, get_or-set_other, get_or-set_same}
 use Rattle.std.proofs.lemmas.Bool.{cases_eq, cases_lt, cases_Bool, lt-ltb, le-ltb}
 use Rattle.card.specs.Meaning.{Sector}
-use Rattle.trailer.specs.declared.kept.Stage.{Stage}
-use Rattle.trailer.specs.declared.kept.Stage.TheVariants.{Resting, Changing}
+use Rattle.trailer.specs.declared.stage.Stage.{Stage}
+use Rattle.trailer.specs.declared.stage.Stage.TheVariants.{Resting, Changing}
 use Rattle.trailer.specs.Trailers.{Fields, encode, decode, valid, named, named_by}
 use Rattle.trailer.proofs.Fields.{Ranged, Staged, decode_encode, encode_sector, decode_ranged, valid_new, valid_says}
 use Rattle.law.specs.Suites.{Suite, Proper, check, sealed, opened}

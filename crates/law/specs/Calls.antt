@@ -7,8 +7,8 @@ use Rattle.refusal.specs.declared.Refusal.{Refusal}
 use Rattle.refusal.specs.Numbers.{numbered}
 use Rattle.refusal.specs.Demands.{Demand, AllMet, FirstUnmet}
 use Rattle.card.specs.Meaning.{Meaning, at, put, off, on}
-use Rattle.trailer.specs.declared.kept.Stage.{Stage}
-use Rattle.trailer.specs.declared.kept.Stage.TheVariants.{Resting, Changing}
+use Rattle.trailer.specs.declared.stage.Stage.{Stage}
+use Rattle.trailer.specs.declared.stage.Stage.TheVariants.{Resting, Changing}
 use Rattle.trailer.specs.Trailers.{Fields, encode, fresh, begun, moved, finished}
 use Rattle.law.specs.Suites.{Suite, check, sealed, opened}
 use Rattle.law.specs.States.{State, storing, keyed, lent, last, trailer, place, other, valid, fit, key_of, key_at}

@@ -5,7 +5,7 @@ use Rattle.std.specs.List.{AllByRecursion}
 use Rattle.refusal.specs.declared.Refusal.{Refusal}
 use Rattle.octets.specs.Little.{Bytes}
 use Rattle.card.specs.Meaning.{at}
-use Rattle.trailer.specs.declared.kept.Stage.{Stage}
+use Rattle.trailer.specs.declared.stage.Stage.{Stage}
 use Rattle.law.specs.Suites.{Suite, check, opened}
 use Rattle.law.specs.States.{State, Steady, place, other}
 use Rattle.law.specs.Calls as calls

@@ -4,8 +4,8 @@ use Rattle.std.specs.Option.{unwrap_or}
 use Rattle.std.specs.Str.{bytes_eq}
 use Rattle.octets.specs.Little.{Bytes}
 use Rattle.card.specs.Meaning.{Meaning, Sound, count, at}
-use Rattle.trailer.specs.declared.kept.Stage.{Stage}
-use Rattle.trailer.specs.declared.kept.Stage.TheVariants.{Resting, Changing}
+use Rattle.trailer.specs.declared.stage.Stage.{Stage}
+use Rattle.trailer.specs.declared.stage.Stage.TheVariants.{Resting, Changing}
 use Rattle.trailer.specs.Trailers as trailers
 use Rattle.trailer.specs.Trailers.{Fields, decode, named}
 use Rattle.law.specs.Suites.{Suite, check}

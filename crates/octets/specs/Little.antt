@@ -1,5 +1,6 @@
 -- Bytes, and numbers as their little-endian bytes.
-use Rattle.std.specs.Prelude.{◌≡◌, ℕ, zero, suc, ◌+◌, ◌*◌, ◌/◌, ◌%◌, ◌<◌, Bool, true, ◌&&◌, List, [], ◌∷◌, length, ◌==◌, bit_xor, slice_index}
+use Rattle.std.specs.Prelude.{◌≡◌, ℕ, zero, suc, ◌+◌, ◌*◌, ◌/◌, ◌%◌, ◌<◌, Bool, List, [], ◌∷◌, length, ◌==◌, bit_xor, slice_index}
+use Rattle.std.specs.List.{list_all}
 
 -- a list of n numbers that are each below 256
 abbrev pub Bytes : ℕ → List ℕ → Type 0
@@ -23,5 +24,4 @@ xored (x ∷ xs) (y ∷ ys) = bit_xor x y ∷ xored xs ys
 
 -- each is v
 abbrev pub all_are : ℕ → List ℕ → Bool
-all_are v [] = true
-all_are v (x ∷ xs) = x == v && all_are v xs
+all_are v = list_all (λ x. x == v)

@@ -4,7 +4,9 @@
 ghost use Rattle.std.specs.Prelude.{◌≡◌, ℕ, ◌+◌, ◌*◌, ◌/◌, ◌%◌, ◌^◌, length};
 ghost use Rattle.octets.specs.Little.{Bytes, le_number, le_bytes, all_are};
 
-// The number whose little-endian bytes are the block.
+// The number whose little-endian bytes are the block. These five stay, since callers' proofs want their clauses: the
+// library's for a block are sums of sixteen terms, and for a half there is a mask, a shift and a cast.
+#[tactic(auto, using(crate::proofs::Numbers::number16_is))]
 pub fn block_number(block: &[u8; 16]) -> u128
     ensures { result ≡ le_number block.now }
 {
@@ -12,13 +14,14 @@ pub fn block_number(block: &[u8; 16]) -> u128
 }
 
 // The sixteen little-endian bytes of a number.
+#[tactic(auto, using(crate::proofs::Numbers::bytes16_is))]
 pub fn block_bytes(number: u128) -> [u8; 16]
     ensures { result ≡ le_bytes 16 number }
 {
     number.to_le_bytes()
 }
 
-// The number of a block's first eight bytes.
+// The number of a block's first eight bytes. A cast may lose no bits, so a mask comes before it.
 pub fn low_half(number: u128) -> u64
     ensures { result ≡ number % 2 ^ 64 }
 {
@@ -36,24 +39,17 @@ pub fn high_half(number: u128) -> u64
 pub fn joined(low: u64, high: u64) -> u128
     ensures { result ≡ low + high * 2 ^ 64 }
 {
-    (low as u128) | ((high as u128) << 64)
+    u128::from(low) | (u128::from(high) << 64)
 }
 
 // Whether each byte is v.
 pub fn all_are(s: &[u8], v: u8) -> bool
     ensures { result ≡ all_are v s.now }
 {
-    for x in s {
-        if *x != v {
-            return false;
-        }
-    }
-    true
+    s.iter().all(|x| *x == v)
 }
 
-// What a slice of bytes holds are bytes: a fact for the proofs of callers that pass the slice on.
+// What a slice of bytes holds are bytes: a fact for the proofs of callers, and nothing that runs.
 pub fn all_bytes(s: &[u8])
     ensures { Bytes (length s.now) s.now }
-{
-    let _empty = s.is_empty();
-}
+{}

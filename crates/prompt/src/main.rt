@@ -1,30 +1,31 @@
 // Changes the key of a small volume while the power fails in a step, and prints a line for each call.
 #![tactic(auto)]
 
-use card::FlatCard;
-use cut::{Cut, Script};
+use card::{FlatCard, SECTOR_BYTES};
+use cut::{Cut, Loss, Script};
 use history::{Call, Drive};
 use journal::Journal;
-use keys::{AesKey, LoadedKey};
+use keys::AesKey;
 use report::Report;
 
 type Stack = Drive<AesKey, Journal<Cut<FlatCard>>>;
 
+// (`rekeys` has the same stack and card: a crate for two lines would be longer.)
 // Twelve sectors: the journal shows eight, and the last of these is the trailer.
-const CARD_BYTES: usize = 6240;
+const CARD_BYTES: usize = 12 * SECTOR_BYTES;
 
 // Byte j is `first` + j.
 fn key_from(first: u8) -> [u8; 64] {
     let mut key = [0u8; 64];
-    for j in 0..64u8 {
-        key[j as usize] = first.wrapping_add(j);
+    for (byte, value) in key.iter_mut().zip(first..=u8::MAX) {
+        *byte = value;
     }
     key
 }
 
 // Makes one call and prints what was answered.
 fn tell(rt: &HostRuntime, drive: &mut Stack, call: Call) -> anyhow::Result<()> {
-    let mut work = [0u8; 520];
+    let mut work = [0u8; SECTOR_BYTES];
     rt.println(Report::on(rt.alloc(), drive, call, &mut work)?)?;
     Ok(())
 }
@@ -44,10 +45,10 @@ fn change_key<'a>(
     tell(rt, drive, Call::Claim)?;
     tell(rt, drive, Call::Begin)?;
     tell(rt, drive, Call::Step)?;
-    drive
-        .below()
-        .below()
-        .set_script(Script { left: 9, kind: 2 });
+    drive.below().below().set_script(Script {
+        left: 9,
+        loss: Loss::Junk,
+    });
     tell(rt, drive, Call::Step)?;
     tell(rt, drive, Call::PowerUp)?;
     tell(rt, drive, Call::Read(2))?;
@@ -65,7 +66,7 @@ fn run(rt: &HostRuntime) -> anyhow::Result<()> {
         &key_from(1),
         &key_from(101),
         &[0u8; 16],
-        &[65u8; 520],
+        &[65u8; SECTOR_BYTES],
     );
     let _volume = drive.close();
     outcome

@@ -1,4 +1,5 @@
 // The calls of a change of key, and the accesses that each of them makes to the card.
+use accesses::Access;
 use history::Call;
 use std::fmt;
 
@@ -30,37 +31,6 @@ impl fmt::Display for Part {
             Part::Begin => f.pad("begin"),
             Part::Step(n) => write!(f, "step {n}"),
             Part::Finish => f.pad("finish"),
-        }
-    }
-}
-
-#[derive(Clone, Copy)]
-pub enum Access {
-    LooksAtFlag,
-    Trailer,
-    Data,
-    FirstSpare,
-    SecondSpare,
-    Slip,
-    RaisesFlag,
-    FirstPlace,
-    SecondPlace,
-    LowersFlag,
-}
-
-impl fmt::Display for Access {
-    fn fmt<W: fmt::Write>(&self, f: &mut fmt::Formatter<W>) -> fmt::Result {
-        match self {
-            Access::LooksAtFlag => f.pad("the read of the flag"),
-            Access::Trailer => f.pad("the read of the trailer"),
-            Access::Data => f.pad("the read of the data sector"),
-            Access::FirstSpare => f.pad("the write of the first spare"),
-            Access::SecondSpare => f.pad("the write of the second spare"),
-            Access::Slip => f.pad("the write of the slip"),
-            Access::RaisesFlag => f.pad("the raising of the flag"),
-            Access::FirstPlace => f.pad("the write of the first place"),
-            Access::SecondPlace => f.pad("the write of the second place"),
-            Access::LowersFlag => f.pad("the lowering of the flag"),
         }
     }
 }

@@ -5,11 +5,12 @@
 mod change;
 mod trial;
 
+use accesses::Access;
 use anyhow::anyhow;
-use change::{Access, CHANGE, Part};
-use cut::Script;
+use change::{CHANGE, Part};
+use cut::{Loss, Script};
 
-#[derive(Clone, Copy)]
+#[derive(Clone, Copy, Default)]
 struct Tally {
     cases: u32,
     lost: u32,
@@ -23,9 +24,10 @@ fn cut_access(
     left: u32,
     tally: &mut Tally,
 ) -> anyhow::Result<()> {
-    for kind in 0..3u8 {
-        let outcome = trial::run(rt.alloc(), Script { left, kind }, part)?;
+    for loss in [Loss::Old, Loss::New, Loss::Junk] {
+        let outcome = trial::run(rt.alloc(), Script { left, loss }, part)?;
         let way = outcome.way;
+        let kind = loss as u8;
         println!(rt; "access {left}, {access} in {part}, kind {kind}: {way}")?;
         tally.cases = tally.cases.saturating_add(1);
         if !outcome.kept {
@@ -36,12 +38,11 @@ fn cut_access(
 }
 
 fn run(rt: &HostRuntime) -> anyhow::Result<()> {
-    let mut tally = Tally { cases: 0, lost: 0 };
-    let mut left = 0u32;
+    let mut tally = Tally::default();
+    let mut served = 0u32..=u32::MAX;
     for part in CHANGE {
-        for access in part.accesses() {
+        for (access, left) in part.accesses().iter().zip(served.by_ref()) {
             cut_access(rt, part, *access, left, &mut tally)?;
-            left = left.saturating_add(1);
         }
     }
     let cases = tally.cases;

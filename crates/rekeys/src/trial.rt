@@ -1,20 +1,22 @@
 // One trial: a change of key that loses power in a chosen access, and the way on from there.
 use crate::change::{CHANGE, Part, REACH};
 use anyhow::anyhow;
-use card::FlatCard;
+use card::{FlatCard, SECTOR_BYTES};
 use cut::{Cut, Script};
 use history::{Call, Drive};
 use journal::Journal;
-use keys::{AesKey, LoadedKey};
+use keys::AesKey;
 use refusal::Refusal;
-use report::{Reply, Report};
+use report::{Answer, Report};
 use std::alloc::Global;
 use std::fmt;
+use trailer::Stage;
 
 type Stack = Drive<AesKey, Journal<Cut<FlatCard>>>;
 
+// (`prompt` has the same stack and card: a crate for two lines would be longer.)
 // Twelve sectors: the journal shows eight, and the last of these is the trailer.
-const CARD_BYTES: usize = 6240;
+const CARD_BYTES: usize = 12 * SECTOR_BYTES;
 
 // How the change went on once the power was back, by the stage that the new claim told, and how many steps it took.
 #[derive(Clone, Copy)]
@@ -68,135 +70,139 @@ fn read(n: u32) -> Call<'static> {
     Call::Read(n)
 }
 
-fn ask(heap: Global, drive: &mut Stack, call: Call) -> anyhow::Result<Reply> {
-    let mut work = [0u8; 520];
-    Ok(Report::on(heap, drive, call, &mut work)?.reply)
-}
-
-// A call that has to be done.
-fn must(heap: Global, drive: &mut Stack, call: Call) -> anyhow::Result<()> {
-    match ask(heap, drive, call)? {
-        Reply::Refused(refusal) => Err(anyhow!(refusal.text())),
-        Reply::NotMade => Err(anyhow!("the permit is not held")),
-        _ => Ok(()),
-    }
-}
-
-fn load_one(heap: Global, drive: &mut Stack, key: &[u8]) -> anyhow::Result<()> {
-    must(heap, drive, Call::Load(key, None))
-}
-
-fn load_two<'a>(
+// A drive on trial, and the heap that its log is kept on.
+struct Rig {
     heap: Global,
-    drive: &mut Stack,
-    first: &'a [u8],
-    second: &'a [u8],
-) -> anyhow::Result<()> {
-    must(heap, drive, Call::Load(first, Some(second)))
+    drive: Stack,
 }
 
-fn format(heap: Global, drive: &mut Stack, label: &[u8]) -> anyhow::Result<()> {
-    must(heap, drive, Call::Format(REACH, label))
-}
-
-fn write(heap: Global, drive: &mut Stack, n: u32, bytes: &[u8]) -> anyhow::Result<()> {
-    must(heap, drive, Call::Write(n, bytes))
-}
-
-// Formats the volume and writes every sector.
-fn fill(heap: Global, drive: &mut Stack) -> anyhow::Result<()> {
-    format(heap, drive, &[0u8; 16])?;
-    for n in 0..REACH {
-        write(heap, drive, n, &[byte_of(n); 520])?;
+impl Rig {
+    fn ask(&mut self, call: Call) -> anyhow::Result<Option<Result<Answer, Refusal>>> {
+        let mut work = [0u8; SECTOR_BYTES];
+        Ok(Report::on(self.heap, &mut self.drive, call, &mut work)?.reply)
     }
-    Ok(())
-}
 
-fn shows(heap: Global, drive: &mut Stack, n: u32) -> anyhow::Result<bool> {
-    let mut work = [0u8; 520];
-    Report::on(heap, drive, read(n), &mut work)?;
-    Ok(octets::all_are(&work, byte_of(n)))
-}
+    // A call that has to be done.
+    fn must(&mut self, call: Call) -> anyhow::Result<()> {
+        let Some(reply) = self.ask(call)? else {
+            return Err(anyhow!("the permit is not held"));
+        };
+        reply?;
+        Ok(())
+    }
 
-fn shows_all(heap: Global, drive: &mut Stack) -> anyhow::Result<bool> {
-    for n in 0..REACH {
-        if !shows(heap, drive, n)? {
-            return Ok(false);
+    fn load_one(&mut self, key: &[u8]) -> anyhow::Result<()> {
+        self.must(Call::Load(key, None))
+    }
+
+    fn load_two<'a>(&mut self, first: &'a [u8], second: &'a [u8]) -> anyhow::Result<()> {
+        self.must(Call::Load(first, Some(second)))
+    }
+
+    fn format(&mut self, label: &[u8]) -> anyhow::Result<()> {
+        self.must(Call::Format(REACH, label))
+    }
+
+    fn write(&mut self, n: u32, bytes: &[u8]) -> anyhow::Result<()> {
+        self.must(Call::Write(n, bytes))
+    }
+
+    // Formats the volume and writes every sector.
+    fn fill(&mut self) -> anyhow::Result<()> {
+        self.format(&[0u8; 16])?;
+        for n in 0..REACH {
+            self.write(n, &[byte_of(n); SECTOR_BYTES])?;
         }
+        Ok(())
     }
-    Ok(true)
-}
 
-// Makes the calls of a change up to the one that loses power.
-fn change_until_cut(heap: Global, drive: &mut Stack) -> anyhow::Result<Option<Part>> {
-    for part in CHANGE {
-        match ask(heap, drive, part.call())? {
-            Reply::Refused(Refusal::PowerOff) => return Ok(Some(part)),
-            Reply::Refused(refusal) => return Err(anyhow!(refusal.text())),
-            _ => {}
-        }
+    fn shows(&mut self, n: u32) -> anyhow::Result<bool> {
+        let mut work = [0u8; SECTOR_BYTES];
+        Report::on(self.heap, &mut self.drive, read(n), &mut work)?;
+        Ok(octets::all_are(&work, byte_of(n)))
     }
-    Ok(None)
-}
 
-// Makes the steps that are left, and finishes; answers how many they were.
-fn finish(heap: Global, drive: &mut Stack) -> anyhow::Result<u32> {
-    for steps in 0..REACH + 1 {
-        match ask(heap, drive, Part::Step(steps + 1).call())? {
-            Reply::Number(_) => {}
-            Reply::Refused(Refusal::NothingLeft) => {
-                must(heap, drive, Part::Finish.call())?;
-                return Ok(steps);
+    fn shows_all(&mut self) -> anyhow::Result<bool> {
+        for n in 0..REACH {
+            if !self.shows(n)? {
+                return Ok(false);
             }
-            _ => return Err(anyhow!("a step was refused")),
+        }
+        Ok(true)
+    }
+
+    // Makes the calls of a change up to the one that loses power.
+    fn change_until_cut(&mut self) -> anyhow::Result<Option<Part>> {
+        for part in CHANGE {
+            match self.ask(part.call())? {
+                Some(Err(Refusal::PowerOff)) => return Ok(Some(part)),
+                Some(Err(refusal)) => return Err(refusal.into()),
+                _ => {}
+            }
+        }
+        Ok(None)
+    }
+
+    // Makes the steps that are left, and finishes; answers how many they were.
+    fn finish(&mut self) -> anyhow::Result<u32> {
+        for steps in 0..=REACH {
+            match self.ask(Part::Step(steps + 1).call())? {
+                Some(Ok(Answer::Number(_))) => {}
+                Some(Err(Refusal::NothingLeft)) => {
+                    self.must(Part::Finish.call())?;
+                    return Ok(steps);
+                }
+                _ => return Err(anyhow!("a step was refused")),
+            }
+        }
+        Err(anyhow!("the steps do not end"))
+    }
+
+    // Claims again, and goes on from the stage that is found. A claim that lost power left no permit to hand in.
+    fn go_on(&mut self, cut_in: Part) -> anyhow::Result<Way> {
+        let _ = self.ask(hand_in())?;
+        match (self.ask(Part::Claim.call())?, cut_in) {
+            (Some(Ok(Answer::Stage(Stage::Resting))), Part::Finish) => Ok(Way::Over),
+            (Some(Ok(Answer::Stage(Stage::Resting))), _) => {
+                self.must(Part::Begin.call())?;
+                Ok(Way::FromBegin(self.finish()?))
+            }
+            (Some(Ok(Answer::Stage(Stage::Changing))), _) => Ok(Way::Changing(self.finish()?)),
+            _ => Err(anyhow!("the new claim was refused")),
         }
     }
-    Err(anyhow!("the steps do not end"))
-}
 
-// Claims again, and goes on from the stage that is found. A claim that lost power left no permit to hand in.
-fn go_on(heap: Global, drive: &mut Stack, cut_in: Part) -> anyhow::Result<Way> {
-    let _ = ask(heap, drive, hand_in())?;
-    match (ask(heap, drive, Part::Claim.call())?, cut_in) {
-        (Reply::Number(0), Part::Finish) => Ok(Way::Over),
-        (Reply::Number(0), _) => {
-            must(heap, drive, Part::Begin.call())?;
-            Ok(Way::FromBegin(finish(heap, drive)?))
+    // At the end the new key alone is loaded.
+    fn change<'a>(
+        &mut self,
+        old: &'a [u8],
+        new: &'a [u8],
+        script: Script,
+        cut_in: Part,
+    ) -> anyhow::Result<Outcome> {
+        self.load_two(old, new)?;
+        self.fill()?;
+        self.drive.below().below().set_script(script);
+        if self.change_until_cut()? != Some(cut_in) {
+            return Err(anyhow!("the power failed in another call"));
         }
-        (Reply::Number(1), _) => Ok(Way::Changing(finish(heap, drive)?)),
-        _ => Err(anyhow!("the new claim was refused")),
+        self.must(power_up())?;
+        let kept_half_way = self.shows_all()?;
+        let way = self.go_on(cut_in)?;
+        self.must(hand_in())?;
+        self.load_one(new)?;
+        let kept = self.shows_all()? && kept_half_way;
+        Ok(Outcome { way, kept })
     }
-}
-
-// At the end the new key alone is loaded.
-fn change<'a>(
-    heap: Global,
-    drive: &mut Stack,
-    old: &'a [u8],
-    new: &'a [u8],
-    script: Script,
-    cut_in: Part,
-) -> anyhow::Result<Outcome> {
-    load_two(heap, drive, old, new)?;
-    fill(heap, drive)?;
-    drive.below().below().set_script(script);
-    if change_until_cut(heap, drive)? != Some(cut_in) {
-        return Err(anyhow!("the power failed in another call"));
-    }
-    must(heap, drive, power_up())?;
-    let kept_half_way = shows_all(heap, drive)?;
-    let way = go_on(heap, drive, cut_in)?;
-    must(heap, drive, hand_in())?;
-    load_one(heap, drive, new)?;
-    let kept = shows_all(heap, drive)? && kept_half_way;
-    Ok(Outcome { way, kept })
 }
 
 // A change on a fresh volume, with this script set before its claim; the power should fail in this call.
 pub(crate) fn run(heap: Global, script: Script, cut_in: Part) -> anyhow::Result<Outcome> {
     let card = FlatCard::new(vec![in heap; 0u8; CARD_BYTES]?);
-    let mut drive: Stack = Drive::new(Journal::new(Cut::new(card)));
-    let outcome = change(heap, &mut drive, &key_of(1), &key_of(2), script, cut_in);
+    let drive = Drive::new(Journal::new(Cut::new(card)));
+    let mut rig = Rig { heap, drive };
+    let outcome = rig.change(&key_of(1), &key_of(2), script, cut_in);
+    let Rig { heap: _, drive } = rig;
     let _volume = drive.close();
     outcome
 }

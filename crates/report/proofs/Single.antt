@@ -1,6 +1,6 @@
 -- A script of one call leaves one entry in the log.
-use Rattle.std.proofs.Common.{◌≡◌, ℕ, ◌<◌, List, [], ◌∷◌, length, get_or, Option, ap, ◌∙◌, arith}
-use Rattle.trailer.specs.declared.kept.Stage.{Stage}
+use Rattle.std.proofs.Common.{◌≡◌, ℕ, List, [], ◌∷◌, length, get_or, Option, ap, ◌∙◌, arith}
+use Rattle.trailer.specs.declared.stage.Stage.{Stage}
 use Rattle.law.specs.Suites.{Suite}
 use Rattle.law.specs.States.{State}
 use Rattle.history.specs.declared.script.Call.{Call}
@@ -14,10 +14,6 @@ none_differs x e = let z : ◌≡◌ {A = ℕ} 0 1 = ap length e in omega arith
 
 two_differ : {X : Type 0} (a b x : X) (l : List X) → a ∷ b ∷ l ≡ x ∷ [] → ⊥
 two_differ a b x l e = let z = ap length e in omega arith
-
-pub some_entry : (log : List Entry) (x : Call) → calls_of log ≡ x ∷ [] → 0 < length log
-some_entry [] x h = absurd (none_differs x h)
-some_entry (e ∷ log) x h = omega arith
 
 pub reported : (c : Suite) (v : State) (s : Option Stage) (b : List ℕ) (x : Call) (r : Report) (w : State) (t : Option Stage) (b' : List ℕ) (log : List Entry) (e : Entry)
     → Played c v s b (x ∷ []) log w t b' → e ≡ get_or log 0 e → r ≡ report_of e → Reported c v s b x r w t b'

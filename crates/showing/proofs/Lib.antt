@@ -5,3 +5,4 @@ pub mod Writing
 pub mod Trailers
 pub mod Stepping
 pub mod Cards
+pub mod Theorems

@@ -3,7 +3,7 @@ use Rattle.std.proofs.Common.{◌≡◌, ℕ, Bool, true, false, ◌⊎◌, List
 use Rattle.refusal.specs.declared.Refusal.{Refusal}
 use Rattle.refusal.specs.Demands.{Demand}
 use Rattle.card.specs.Meaning.{Meaning, off, on}
-use Rattle.trailer.specs.declared.kept.Stage.{Stage}
+use Rattle.trailer.specs.declared.stage.Stage.{Stage}
 use Rattle.law.specs.Suites.{Suite}
 use Rattle.law.specs.States.{State, storing, lent}
 use Rattle.law.specs.Shown.{shown}

@@ -4,8 +4,8 @@ use Rattle.std.proofs.lemmas.Bool.{and_from, cases_eq, cases_lt, lt-ltb, le-ltb}
 use Rattle.refusal.specs.declared.Refusal.{Refusal}
 use Rattle.octets.specs.Little.{Bytes}
 use Rattle.card.specs.Meaning.{Meaning, at, put}
-use Rattle.trailer.specs.declared.kept.Stage.{Stage}
-use Rattle.trailer.specs.declared.kept.Stage.TheVariants.{Changing}
+use Rattle.trailer.specs.declared.stage.Stage.{Stage}
+use Rattle.trailer.specs.declared.stage.Stage.TheVariants.{Changing}
 use Rattle.trailer.specs.Trailers.{Fields, named, named_by, moved}
 use Rattle.trailer.proofs.Fields.{Staged}
 use Rattle.law.specs.Suites.{Suite, Proper, opened}

@@ -4,7 +4,7 @@ use Rattle.std.specs.List.{range_with_len}
 use Rattle.std.proofs.lemmas.Bool.{and_from, lt-ltb, le-ltb}
 use Rattle.octets.specs.Little.{Bytes}
 use Rattle.card.specs.Meaning.{Meaning, count, at}
-use Rattle.trailer.specs.declared.kept.Stage.{Stage}
+use Rattle.trailer.specs.declared.stage.Stage.{Stage}
 use Rattle.trailer.specs.Trailers as trailers
 use Rattle.trailer.specs.Trailers.{Fields, encode, decode, named, named_by, fresh, begun, finished}
 use Rattle.trailer.proofs.Fields.{Ranged, Staged, zeros, decode_encode, valid_new}

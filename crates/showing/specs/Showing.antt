@@ -5,7 +5,7 @@ use Rattle.refusal.specs.declared.Refusal.{Refusal}
 use Rattle.octets.specs.Little.{Bytes}
 use Rattle.card.specs.Meaning.{Sound}
 use Rattle.card.specs.Calls as card
-use Rattle.trailer.specs.declared.kept.Stage.{Stage}
+use Rattle.trailer.specs.declared.stage.Stage.{Stage}
 use Rattle.law.specs.Suites.{Suite, Proper}
 use Rattle.law.specs.States.{State, Steady}
 use Rattle.law.specs.Shown.{shown, counted, as_card}

@@ -4,20 +4,14 @@
 ghost use Rattle.showing.specs.Showing.{OfEveryVolume, CallsKeepWhatIsShown, CallsShowWhatIsPut, IsACard};
 
 // No call but a write, a format and a load of other keys changes what is shown; a key that changes does not.
-pub fn calls_keep_what_is_shown() -> u8
+pub fn calls_keep_what_is_shown()
     ensures { OfEveryVolume CallsKeepWhatIsShown }
-{
-    0
-}
+{}
 
-pub fn calls_show_what_is_put() -> u8
+pub fn calls_show_what_is_put()
     ensures { OfEveryVolume CallsShowWhatIsPut }
-{
-    0
-}
+{}
 
-pub fn volume_is_a_card() -> u8
+pub fn volume_is_a_card()
     ensures { OfEveryVolume IsACard }
-{
-    0
-}
+{}

@@ -1,1 +1,3 @@
+mod KeyWords
 pub mod Laws
+mod Turns

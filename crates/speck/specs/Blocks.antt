@@ -1,13 +1,12 @@
--- A block as two words, and the words of a key.
-use Rattle.std.specs.Prelude.{◌≡◌, ℕ, zero, suc, ◌+◌, ◌*◌, ◌/◌, ◌%◌, ◌^◌, ◌<◌, ◌≤◌, List, ◌++◌, length, take, drop, refl}
-use Rattle.std.proofs.Common.{sym, ap, ap₂, ◌∙◌, subst, arith, take-append-drop, length-drop, take_all, drop-drop, take-take}
+-- A block as two words, and the bounds of a key's words.
+use Rattle.std.specs.Prelude.{◌≡◌, ℕ, zero, suc, ◌+◌, ◌%◌, ◌^◌, ◌<◌, ◌≤◌, List, ◌++◌, take, drop}
+use Rattle.std.proofs.Common.{ap, ap₂, ◌∙◌, arith, take-append-drop, length-drop, take_all}
 use Rattle.std.proofs.lemmas.Nat.{xor_lt}
-use Rattle.std.proofs.lemmas.List.{drop-take}
 use Rattle.octets.specs.Little.{Bytes, le_number, le_bytes}
-use Rattle.octets.proofs.Lists.{part_bytes, rest_bytes, append_bytes}
-use Rattle.octets.proofs.Numbers.{number_bytes, number_lt, number_split, bytes_number, le_bytes_bytes}
+use Rattle.octets.proofs.Lists.{part_bytes, append_bytes}
+use Rattle.octets.proofs.Numbers.{number_bytes, number_lt, bytes_number, le_bytes_bytes}
 use Rattle.speck.specs.Words.{rotr}
-use Rattle.speck.specs.Speck.{Pair, pair, Keys, keys, keys_first, keys_next, keys_at, round_key, pair_of, block_of}
+use Rattle.speck.specs.Speck.{Pair, pair, Keys, keys_first, keys_next, keys_at, round_key, pair_of, block_of}
 use Rattle.speck.specs.Rounds.{Fit, rotl3_lt}
 
 pub pair_fit : (block : List ℕ) → Bytes 16 block → Fit (pair_of block)
@@ -27,29 +26,6 @@ pair_block p f =
 
 pub block_bytes : (p : Pair) → Bytes 16 (block_of p)
 block_bytes p = append_bytes 8 8 (le_bytes 8 p.y) (le_bytes 8 p.x) (le_bytes_bytes 8 p.y) (le_bytes_bytes 8 p.x)
-
--- the two words of sixteen bytes at the front of a list
-abbrev Halves : List ℕ → ℕ → Type 0
-Halves xs n = (n % 2 ^ 64 ≡ le_number (take 8 xs)) × (n / 2 ^ 64 ≡ le_number (take 8 (drop 8 xs)))
-
-halves : (xs : List ℕ) (n : ℕ) → 16 ≤ length xs → Bytes (length xs) xs → n ≡ le_number (take 16 xs) → Halves xs n
-halves xs n l h e =
-    let low = number_lt 8 (take 8 xs) (part_bytes 0 8 (length xs) xs (omega arith) h) in
-    let sum = number_split 8 (take 16 xs) in
-    let front : take 8 (take 16 xs) ≡ take 8 xs = take-take 8 16 xs (omega arith) in
-    let back : drop 8 (take 16 xs) ≡ take 8 (drop 8 xs) = drop-take 8 8 xs in
-    let whole : n ≡ le_number (take 8 xs) + 2 ^ 64 * le_number (take 8 (drop 8 xs)) = e ∙ sum ∙ ap₂ (λ (a : List ℕ) (b : List ℕ). le_number a + 2 ^ 64 * le_number b) front back in
-    (omega arith, omega arith)
-
--- the four words of a key, from the numbers of its two halves
-pub key_words : (key : List ℕ) (m n k l0 l1 l2 : ℕ) → Bytes 32 key → m ≡ le_number (take 16 key) → n ≡ le_number (take 16 (drop 16 key))
-    → k ≡ m % 2 ^ 64 → l0 ≡ m / 2 ^ 64 → l1 ≡ n % 2 ^ 64 → l2 ≡ n / 2 ^ 64 → keys k l0 l1 l2 ≡ keys_first key
-key_words key m n k l0 l1 l2 h em en ek e0 e1 e2 =
-    let rest = rest_bytes 16 16 32 key refl h in
-    let a = halves key m (subst (λ (i : ℕ). 16 ≤ i) (sym h.0) (omega arith)) (subst (λ (i : ℕ). Bytes i key) (sym h.0) h) em in
-    let b = halves (drop 16 key) n (subst (λ (i : ℕ). 16 ≤ i) (sym rest.0) (omega arith)) (subst (λ (i : ℕ). Bytes i (drop 16 key)) (sym rest.0) rest) en in
-    let last : take 8 (drop 8 (drop 16 key)) ≡ take 8 (drop 24 key) = ap (take 8) (drop-drop 8 16 key) in
-    rw (ek ∙ a.0, e0 ∙ a.1, e1 ∙ b.0, e2 ∙ b.1 ∙ ap le_number last)
 
 record Fits (s : Keys) : Type 0 where
   fk : s.k < 2 ^ 64

@@ -3,7 +3,7 @@
 -- of the `impl`, and not by a lemma here.
 use Rattle.std.specs.Prelude.{◌≡◌, ℕ, zero, suc, ◌+◌, ◌-◌, ◌%◌, ◌^◌, ◌<◌, ◌≤◌, bit_xor}
 use Rattle.std.proofs.Math.Path.{refl, ap}
-use Rattle.std.proofs.Common.{sym, ◌∙◌, add-one, arith}
+use Rattle.std.proofs.Common.{◌∙◌, arith}
 use Rattle.std.proofs.lemmas.Nat.{xor_lt}
 use Rattle.octets.proofs.Lists.{xor_twice}
 use Rattle.speck.specs.Words.{rotr, rotl}
@@ -104,14 +104,3 @@ module _ (ks : ℕ → ℕ) (low : (i : ℕ) → i < 34 → ks i < 2 ^ 64) (t : 
   all_redone zero p h f = refl
   all_redone (suc n) p h f =
       ap (round (ks n)) (all_redone n (round_back (ks n) p) (omega arith) (t.back_fit (ks n) p (low n (omega arith)) f)) ∙ t.redone (ks n) p (low n (omega arith)) f
-
--- a turn of the loops
-pub turn : (ks : ℕ → ℕ) (i : ℕ) (p q r : Pair) → p ≡ rounds ks i q → r ≡ round (ks i) p → r ≡ rounds ks (i + 1) q
-unfolding rounds
-turn ks i p q r e f = f ∙ ap (round (ks i)) e ∙ ap (λ (n : ℕ). rounds ks n q) (sym (add-one i))
-
-pub turn_back : (ks : ℕ → ℕ) (i : ℕ) (p r : Pair) → 0 < i → r ≡ round_back (ks (i - 1)) p → rounds_back ks (i - 1) r ≡ rounds_back ks i p
-unfolding rounds_back
-turn_back ks i p r h e =
-    let d : suc (i - 1) ≡ i = omega arith in
-    ap (rounds_back ks (i - 1)) e ∙ ap (λ (n : ℕ). rounds_back ks n p) d

@@ -1,41 +1,52 @@
 // Speck128/256.
 #![tactic(auto)]
 
-ghost use Rattle.std.specs.Prelude.{◌≡◌, ℕ, ◌+◌, ◌<◌, ◌≤◌, List, length, take, drop, slice_index};
-ghost use Rattle.octets.specs.Little.{Bytes, le_number, le_bytes};
-ghost use Rattle.speck.specs.Speck.{pair, pair_of, block_of, keys as keys_of, keys_first, keys_next, round as roundOf, round_back, round_key, speck as speckOf, speck_back};
+ghost use Rattle.std.specs.Prelude.{◌≡◌, ℕ, ◌<◌, slice_index};
+ghost use Rattle.octets.specs.Little.{Bytes, le_bytes};
+ghost use Rattle.speck.specs.Speck.{Pair, Keys, pair, pair_of, block_of, keys as keys_of, keys_first, keys_next, round as roundOf, round_back, round_key, speck as speckOf, speck_back};
 ghost use Rattle.speck.specs.Vector.{VectorHolds};
 ghost use Rattle.speck.specs.Laws.{inverse_by};
 ghost use Rattle.speck.specs.Rounds.{round_fit, round_back_fit, undone as round_undone, redone as round_redone};
 ghost use Rattle.std.proofs.Common.{rules, arith};
 
 use cipher::Cipher;
+use std::marker::Model;
 
 // The two words of a block.
-#[derive(Clone, Copy)]
+#[derive(Drop)]
 struct Words {
     x: u64,
     y: u64,
 }
 
-impl Words {
-    fn of_block(block: u128) -> Words
-        ensures { pair result.x result.y ≡ pair_of (le_bytes 16 block) }
-    {
+impl Model for Words {
+    ghost Value = { Pair };
+
+    ghost view = { λ w. pair w.x w.y };
+}
+
+impl From<u128> for Words {
+    ghost from_gives = { λ block words. words ≡ pair_of (le_bytes 16 block) };
+
+    fn from(block: u128) -> Words {
         Words {
             x: octets::high_half(block),
             y: octets::low_half(block),
         }
     }
+}
 
-    fn block(self) -> u128
-        ensures { le_bytes 16 result ≡ block_of (pair self.x self.y) }
-    {
-        octets::joined(self.y, self.x)
+impl From<Words> for u128 {
+    ghost from_gives = { λ words block. le_bytes 16 block ≡ block_of words };
+
+    fn from(words: Words) -> u128 {
+        octets::joined(words.y, words.x)
     }
+}
 
+impl Words {
     fn round(self, k: u64) -> Words
-        ensures { pair result.x result.y ≡ roundOf k (pair self.x self.y) }
+        ensures { result ≡ roundOf k self }
     {
         let x = self.x.rotate_right(8).wrapping_add(self.y) ^ k;
         Words {
@@ -45,7 +56,7 @@ impl Words {
     }
 
     fn round_back(self, k: u64) -> Words
-        ensures { pair result.x result.y ≡ round_back k (pair self.x self.y) }
+        ensures { result ≡ round_back k self }
     {
         let y = (self.y ^ self.x).rotate_right(3);
         Words {
@@ -55,18 +66,8 @@ impl Words {
     }
 }
 
-// The number of the sixteen bytes of a key that begin at `at`.
-fn key_part(bytes: &[u8; 32], at: usize) -> u128
-    requires { at ≤ 16 }
-    ensures { result ≡ le_number (take 16 (drop at bytes.now)) }
-{
-    let mut part = [0u8; 16];
-    part.copy_from_slice(&bytes[at..at + 16]);
-    octets::block_number(&part)
-}
-
 // The key schedule at a round: the round's key, and the words that later keys come from.
-#[derive(Clone, Copy)]
+#[derive(Drop)]
 struct Schedule {
     k: u64,
     l0: u64,
@@ -74,23 +75,30 @@ struct Schedule {
     l2: u64,
 }
 
-impl Schedule {
-    fn of_key(bytes: &[u8; 32]) -> Schedule
-        ensures { keys_of result.k result.l0 result.l1 result.l2 ≡ keys_first bytes.now }
-    {
-        let first = key_part(bytes, 0);
-        let second = key_part(bytes, 16);
+impl Model for Schedule {
+    ghost Value = { Keys };
+
+    ghost view = { λ s. keys_of s.k s.l0 s.l1 s.l2 };
+}
+
+impl From<&[u8; 32]> for Schedule {
+    ghost from_gives = { λ key s. s ≡ keys_first key.now };
+
+    fn from(key: &[u8; 32]) -> Schedule {
+        let (words, _) = key.as_chunks::<8>();
         Schedule {
-            k: octets::low_half(first),
-            l0: octets::high_half(first),
-            l1: octets::low_half(second),
-            l2: octets::high_half(second),
+            k: u64::from_le_bytes(words[0]),
+            l0: u64::from_le_bytes(words[1]),
+            l1: u64::from_le_bytes(words[2]),
+            l2: u64::from_le_bytes(words[3]),
         }
     }
+}
 
+impl Schedule {
     // From round i to the next.
     fn next(self, i: u64) -> Schedule
-        ensures { keys_of result.k result.l0 result.l1 result.l2 ≡ keys_next i (keys_of self.k self.l0 self.l1 self.l2) }
+        ensures { result ≡ keys_next i self }
     {
         let l3 = self.k.wrapping_add(self.l0.rotate_right(8)) ^ i;
         Schedule {
@@ -103,16 +111,16 @@ impl Schedule {
 }
 
 // The 34 round keys of a key.
-fn round_keys(bytes: &[u8; 32]) -> [u64; 34]
-    ensures { (i : ℕ) → i < 34 → slice_index result i ≡ round_key bytes.now i }
+fn round_keys(key: &[u8; 32]) -> [u64; 34]
+    ensures { (i : ℕ) → i < 34 → slice_index result i ≡ round_key key.now i }
 {
-    let mut state = Schedule::of_key(bytes);
-    let mut round_keys = [0u64; 34];
-    for i in 0..34 {
-        round_keys[i] = state.k;
+    let mut state = Schedule::from(key);
+    let mut keys = [0u64; 34];
+    for (i, k) in keys.iter_mut().enumerate() {
+        *k = state.k;
         state = state.next(i as u64);
     }
-    round_keys
+    keys
 }
 
 // A key of 32 bytes with its round keys, worked out once.
@@ -127,7 +135,7 @@ pub struct Speck {
 impl Cipher for Speck {
     const NUMBER: u8 = 2;
 
-    ghost numbered = { 2 };
+    ghost NUMBER = { 2 };
 
     ghost forward = { speckOf };
 
@@ -135,13 +143,11 @@ impl Cipher for Speck {
 
     ghost key = { λ c. c.bytes };
 
+    ghost byte = { Prim.search rules };
+
     ghost inverse = { inverse_by (record { fit = round_fit; back_fit = round_back_fit; undone = round_undone; redone = round_redone }) };
 
     ghost keyed = { first_of (Prim.search rules, Prim.grind (arith, Self.row.coded.inj)) };
-
-    fn own_number() -> u8 {
-        Self::NUMBER
-    }
 
     fn new(bytes: &[u8; 32]) -> Speck {
         let keys = round_keys(bytes);
@@ -152,25 +158,23 @@ impl Cipher for Speck {
     }
 
     fn encipher_number(&self, block: u128) -> u128 {
-        let mut words = Words::of_block(block);
-        for i in 0..34 {
-            words = words.round(self.keys[i]);
+        let mut words = Words::from(block);
+        for k in &self.keys {
+            words = words.round(*k);
         }
-        words.block()
+        u128::from(words)
     }
 
     fn decipher_number(&self, block: u128) -> u128 {
-        let mut words = Words::of_block(block);
-        for i in (0..34).rev() {
-            words = words.round_back(self.keys[i]);
+        let mut words = Words::from(block);
+        for k in self.keys.iter().rev() {
+            words = words.round_back(*k);
         }
-        words.block()
+        u128::from(words)
     }
 }
 
 // The published vector, of the definition that the contracts cite.
-pub fn vector_stands() -> u8
+pub fn vector_stands()
     ensures { VectorHolds }
-{
-    0
-}
+{}

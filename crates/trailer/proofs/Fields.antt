@@ -10,11 +10,12 @@ use Rattle.std.proofs.lemmas.Bool.Decides.{not_from_Decides, Decides-not}
 use Rattle.octets.specs.Little.{Bytes, le_bytes, all_are}
 use Rattle.octets.proofs.Lists.{of_all, part_bytes, append_bytes}
 use Rattle.octets.proofs.Numbers.{le_bytes_bytes, number_bytes, number_lt}
-use Rattle.trailer.specs.declared.kept.Stage.{Stage}
-use Rattle.trailer.specs.declared.kept.Stage.TheVariants.{Resting, Changing}
+use Rattle.trailer.specs.declared.stage.Stage.{Stage}
+use Rattle.trailer.specs.declared.stage.Stage.TheVariants.{Resting, Changing}
 pub use Rattle.trailer.specs.Theorems.{Ranged, Staged}
 use Rattle.trailer.specs.Theorems.{EncodingStays}
-use Rattle.trailer.specs.Trailers.{Fields, stage_number, encode, decode, field, framed, staged, valid}
+use Rattle.trailer.specs.Stages.{stage_number}
+use Rattle.trailer.specs.Trailers.{Fields, encode, decode, field, framed, staged, valid}
 
 zero_each : (n : ℕ) → AllByRecursion (λ b. b < 256) (replicate n 0)
 zero_each zero = tt
@@ -40,7 +41,7 @@ decode_ranged s b = record {
   label = field_bytes 504 16 s (omega arith) b;
 }
 
-stage_back : (x : Stage) → cond (eqb (stage_number x) 0) Resting Changing ≡ x
+pub stage_back : (x : Stage) → cond (eqb (stage_number x) 0) Resting Changing ≡ x
 stage_back Resting = refl
 stage_back Changing = refl
 

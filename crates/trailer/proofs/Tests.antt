@@ -1,13 +1,15 @@
 -- What each test of a sector says of whether it is valid.
-use Rattle.std.proofs.Common.{◌≡◌, ℕ, ◌<◌, ◌≤◌, Bool, true, false, not, ◌&&◌, eqb, leb, List, get_or, refl, ⊎_elim, arith}
+use Rattle.std.proofs.Common.{◌≡◌, ℕ, ◌<◌, ◌≤◌, ◌≢◌, Bool, true, false, cond, not, ◌&&◌, eqb, leb, List, get_or, sym, refl, ap, ◌∙◌, ⊎_elim, arith}
+use Rattle.std.specs.Bool.{then_some}
 use Rattle.std.specs.Str.{bytes_eq}
-use Rattle.std.proofs.lemmas.Bool.{and_left, and_right, cases_lt, lt-leb}
+use Rattle.std.proofs.lemmas.Bool.{and_left, and_right, cases_lt, lt-leb, ne_eqb}
 use Rattle.octets.specs.Little.{Bytes, all_are}
-use Rattle.trailer.specs.declared.kept.Stage.{Stage}
-use Rattle.trailer.specs.declared.kept.Stage.TheVariants.{Resting, Changing}
-use Rattle.trailer.specs.Trailers.{Fields, decode, framed, staged, valid}
+use Rattle.trailer.specs.declared.stage.Stage.{Stage}
+use Rattle.trailer.specs.declared.stage.Stage.TheVariants.{Resting, Changing}
+use Rattle.trailer.specs.Stages.{stage_number}
+use Rattle.trailer.specs.Trailers.{Fields, decode, framed, staged, valid, StagedAs}
 use Rattle.trailer.specs.Theorems.{Staged}
-use Rattle.trailer.proofs.Fields.{valid_says}
+use Rattle.trailer.proofs.Fields.{valid_says, stage_back}
 
 pub second_counts : (x y z : Bool) → x ≡ true → z ≡ y → z ≡ (x && y)
 second_counts x y z h e = rw (h, e) refl
@@ -20,6 +22,16 @@ rests_is x w t e f = rw (e, f) refl
 
 pub changes_is : (x w r : ℕ) (t : Fields) → x ≡ 1 → w ≡ t.watermark → r ≡ t.reach → (leb w r && not (bytes_eq t.first t.second)) ≡ staged x t
 changes_is x w r t e f g = rw (e, f, g) refl
+
+-- a byte that is the number of no stage
+pub no_stage : (x : ℕ) (t : Fields) → ((g : Stage) → stage_number g ≢ x) → staged x t ≡ false
+no_stage x t h = rw (ne_eqb x 0 (λ e. h Resting (sym e)), ne_eqb x 1 (λ e. h Changing (sym e))) refl
+
+-- the stage that was read, where the test is that of its number
+pub kept_is : (s : List ℕ) (g : Stage) (kept : Bool) → stage_number g ≡ get_or s 457 0 → kept ≡ staged (get_or s 457 0) (decode s) → StagedAs s (then_some kept g)
+unfolding decode
+kept_is s g true e k = (sym k, sym (stage_back g) ∙ ap (λ (x : ℕ). cond (eqb x 0) Resting Changing) e)
+kept_is s g false e k = sym k
 
 pub same_fields : (t u : Fields) → t.stage ≡ u.stage → t.reach ≡ u.reach → t.watermark ≡ u.watermark → t.first ≡ u.first → t.second ≡ u.second → t.label ≡ u.label → t ≡ u
 same_fields t u a b c d e f = λ i. record { stage = a i; reach = b i; watermark = c i; first = d i; second = e i; label = f i }

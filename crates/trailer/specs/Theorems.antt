@@ -1,8 +1,8 @@
 -- What holds of the trailer's bytes: what is encoded is decoded, and what a valid sector's bytes are.
 use Rattle.std.specs.Prelude.{◌≡◌, ℕ, ◌+◌, ◌^◌, ◌<◌, ◌≤◌, true, ◌≢◌, ◌⊎◌, ◌↔◌, List, replicate, slice_index, slice_index_or}
 use Rattle.octets.specs.Little.{Bytes, le_number}
-use Rattle.trailer.specs.declared.kept.Stage.{Stage}
-use Rattle.trailer.specs.declared.kept.Stage.TheVariants.{Resting, Changing}
+use Rattle.trailer.specs.declared.stage.Stage.{Stage}
+use Rattle.trailer.specs.declared.stage.Stage.TheVariants.{Resting, Changing}
 use Rattle.trailer.specs.Trailers.{Fields, encode, decode, field, valid}
 
 -- the fields fit their places

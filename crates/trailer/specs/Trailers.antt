@@ -1,16 +1,12 @@
 -- The trailer: the record in the last sector of a whole store, which says how many data sectors there are and under
 -- which key each of them lies.
-use Rattle.std.specs.Prelude.{◌≡◌, ℕ, ◌+◌, Bool, true, false, cond, not, ◌&&◌, List, ◌∷◌, ◌++◌, take, drop, replicate, Some, None, Option, ◌==◌, nat_le, nat_lt, slice_index}
+use Rattle.std.specs.Prelude.{◌≡◌, ℕ, ◌+◌, ◌<◌, ◌≤◌, Bool, true, false, cond, not, ◌&&◌, List, ◌∷◌, ◌++◌, take, drop, replicate, Some, None, Option, ◌==◌, nat_le, nat_lt, slice_index}
 use Rattle.std.specs.Str.{bytes_eq}
 use Rattle.octets.specs.Little.{le_number, le_bytes, all_are}
-use Rattle.trailer.specs.declared.kept.Stage.{Stage}
-use Rattle.trailer.specs.declared.kept.Stage.TheVariants.{Resting, Changing}
+use Rattle.trailer.specs.declared.stage.Stage.{Stage}
+use Rattle.trailer.specs.declared.stage.Stage.TheVariants.{Resting, Changing}
 use Rattle.trailer.specs.declared.kept.Trailer.{Trailer}
-
--- the number that stands for each stage in the trailer, and wherever a stage is printed
-abbrev pub stage_number : Stage → ℕ
-stage_number Resting = 0
-stage_number Changing = 1
+use Rattle.trailer.specs.Stages.{stage_number}
 
 pub record Fields : Type 0 where
   -- whether the key is at rest or changing
@@ -65,6 +61,11 @@ staged stage t =
     cond (stage == 0) (t.watermark == 0 && all_are 0 t.second)
     (stage == 1 && (nat_le t.watermark t.reach && not (bytes_eq t.first t.second)))
 
+-- the stage of a sector whose fields are as it asks
+abbrev pub StagedAs : List ℕ → Option Stage → Type 0
+StagedAs s None = staged (slice_index s 457) (decode s) ≡ false
+StagedAs s (Some stage) = (staged (slice_index s 457) (decode s) ≡ true) × (stage ≡ (decode s).stage)
+
 -- Whether sector s, the last one, with number T, is a valid trailer under the cipher of this number.
 unfoldable pub valid : ℕ → ℕ → List ℕ → Bool
 valid cipher T s =
@@ -102,3 +103,8 @@ moved t =
 abbrev pub finished : Fields → Fields
 finished t =
     record { stage = Resting; reach = t.reach; watermark = 0; first = t.second; second = replicate 16 0; label = t.label }
+
+-- a step moves the watermark, where a sector is left below the reach
+abbrev pub MovesOn : Fields → Option Trailer → Type 0
+MovesOn t None = t.reach ≤ t.watermark
+MovesOn t (Some u) = (t.watermark < t.reach) × (fields u ≡ moved t)

@@ -1,12 +1,7 @@
-// A trailer held in memory, and its stage.
+// A trailer held in memory.
 ghost use Rattle.std.specs.Prelude.{◌≤◌};
 
-// `stage_number` of specs/Trailers.antt gives each stage its number.
-#[derive(Clone, Copy, PartialEq, Eq, Debug)]
-pub enum Stage {
-    Resting,
-    Changing,
-}
+use crate::stage::Stage;
 
 // No trailer in memory has a watermark above its reach.
 #[derive(Clone, Copy)]

@@ -2,25 +2,16 @@
 #![tactic(auto)]
 
 ghost use Rattle.std.specs.Prelude.{◌≡◌};
-ghost use Rattle.trailer.specs.Trailers.{stage_number, Decoded, encode as encodeOf, fields, named as named_of};
+ghost use Rattle.trailer.specs.Trailers.{Decoded, encode as encodeOf, fields, named as named_of, fresh as freshOf, begun as begunOf, finished as finishedOf, MovesOn};
 ghost use Rattle.trailer.specs.Theorems.{EncodingStays, ValidityByBytes};
 
 mod kept;
 mod sector;
+mod stage;
 
-pub use kept::{Stage, Trailer};
-use sector::{framed, number_at, put, sixteen_at, stage_in, staged};
-
-impl Stage {
-    pub fn number(self) -> u8
-        ensures { result ≡ stage_number self }
-    {
-        match self {
-            Stage::Resting => 0,
-            Stage::Changing => 1,
-        }
-    }
-}
+pub use kept::Trailer;
+use sector::{field_at, framed, number_at, put, staged};
+pub use stage::{Stage, UnknownStage};
 
 impl Trailer {
     // The trailer that a sector holds, where it is valid for the cipher of this number and as the store's last sector,
@@ -35,16 +26,14 @@ impl Trailer {
         if reach < 1 || reach > last {
             return None;
         }
-        if !staged(sector) {
-            return None;
-        }
+        let stage = staged(sector)?;
         Some(Trailer {
-            stage: stage_in(sector),
+            stage,
             reach,
             watermark: number_at(sector, 464),
-            first: sixteen_at(sector, 472),
-            second: sixteen_at(sector, 488),
-            label: sixteen_at(sector, 504),
+            first: field_at(sector, 472),
+            second: field_at(sector, 488),
+            label: field_at(sector, 504),
         })
     }
 
@@ -54,7 +43,7 @@ impl Trailer {
     {
         let mut s = [0u8; 520];
         s[456] = cipher;
-        s[457] = self.stage.number();
+        s[457] = self.stage.into();
         s[458] = 1;
         put(&mut s, 460, &self.reach.to_le_bytes());
         put(&mut s, 464, &self.watermark.to_le_bytes());
@@ -69,15 +58,61 @@ impl Trailer {
         ensures { result ≡ named_of (fields self.now) i }
     {
         match self.stage {
-            Stage::Resting => self.first,
-            Stage::Changing => {
-                if i < self.watermark {
-                    self.second
-                } else {
-                    self.first
-                }
-            }
+            Stage::Changing if i < self.watermark => self.second,
+            _ => self.first,
         }
+    }
+
+    // The trailer of a format: resting, under the key of this check.
+    pub fn fresh(reach: u32, first: [u8; 16], label: [u8; 16]) -> Trailer
+        ensures { fields result ≡ freshOf reach first label }
+    {
+        Trailer {
+            stage: Stage::Resting,
+            reach,
+            watermark: 0,
+            first,
+            second: [0u8; 16],
+            label,
+        }
+    }
+
+    // The trailer of a change that begins, to the key of this check. (A struct with a ghost field takes no `..*self`.)
+    pub fn begun(&self, second: [u8; 16]) -> Trailer
+        ensures { fields result ≡ begunOf (fields self.now) second }
+    {
+        Trailer {
+            stage: Stage::Changing,
+            reach: self.reach,
+            watermark: 0,
+            first: self.first,
+            second,
+            label: self.label,
+        }
+    }
+
+    // The trailer of a change with one sector more under the new key, if one is left.
+    pub fn moved(&self) -> Option<Trailer>
+        ensures { MovesOn (fields self.now) result }
+    {
+        if self.watermark >= self.reach {
+            return None;
+        }
+        Some(Trailer {
+            stage: Stage::Changing,
+            reach: self.reach,
+            watermark: self.watermark + 1,
+            first: self.first,
+            second: self.second,
+            label: self.label,
+        })
+    }
+
+    // The trailer of a change that ends: resting, under the new key.
+    pub fn finished(&self) -> Trailer
+        ensures { fields result ≡ finishedOf (fields self.now) }
+    {
+        Trailer::fresh(self.reach, self.second, self.label)
     }
 }
 

@@ -1,26 +1,27 @@
 // What stands where in a trailer's sector, and the tests of it.
-ghost use Rattle.std.specs.Prelude.{◌≡◌, ◌+◌, ◌≤◌, ◌++◌, length, take, drop, slice_index};
+ghost use Rattle.std.specs.Prelude.{◌≡◌, ◌+◌, ◌≤◌, ◌++◌, length, take, drop};
 ghost use Rattle.octets.specs.Little.{le_number};
-ghost use Rattle.trailer.specs.Trailers.{field, decode, framed as framedIn, staged as stagedIn};
+ghost use Rattle.trailer.specs.Trailers.{field, framed as framedIn, StagedAs};
 
-use crate::kept::Stage;
+use crate::stage::Stage;
 
-// The little-endian number of the four bytes from place k on.
+// The N bytes from place k on.
+pub(crate) fn field_at<const N: usize>(s: &[u8; 520], k: usize) -> [u8; N]
+    requires { k + N ≤ 520 }
+    ensures { result ≡ field k N s.now }
+{
+    let mut found = [0u8; N];
+    found.copy_from_slice(&s[k..k + N]);
+    found
+}
+
+// The little-endian number of the four bytes from place k on. (`journal` has one too: one for both would be public, and
+// no public function asks anything of its caller.)
 pub(crate) fn number_at(s: &[u8; 520], k: usize) -> u32
     requires { k + 4 ≤ 520 }
     ensures { result ≡ le_number (field k 4 s.now) }
 {
-    u32::from_le_bytes([s[k], s[k + 1], s[k + 2], s[k + 3]])
-}
-
-// The sixteen bytes from place k on.
-pub(crate) fn sixteen_at(s: &[u8; 520], k: usize) -> [u8; 16]
-    requires { k + 16 ≤ 520 }
-    ensures { result ≡ field k 16 s.now }
-{
-    let mut found = [0u8; 16];
-    found.copy_from_slice(&s[k..k + 16]);
-    found
+    u32::from_le_bytes(field_at(s, k))
 }
 
 // Puts a part into its place.
@@ -42,25 +43,17 @@ pub(crate) fn framed(s: &[u8; 520], cipher: u8) -> bool
         && octets::all_are(&s[468..472], 0)
 }
 
-// The stage of a sector whose stage byte is 0 or 1.
-pub(crate) fn stage_in(s: &[u8; 520]) -> Stage
-    ensures { result ≡ (decode s.now).stage }
+// The stage, where the fields are as it asks.
+pub(crate) fn staged(s: &[u8; 520]) -> Option<Stage>
+    ensures { StagedAs s.now result }
 {
-    if s[457] == 0 {
-        Stage::Resting
-    } else {
-        Stage::Changing
-    }
-}
-
-// Whether the fields are as the stage asks.
-pub(crate) fn staged(s: &[u8; 520]) -> bool
-    ensures { result ≡ stagedIn (slice_index s.now 457) (decode s.now) }
-{
+    let Ok(stage) = Stage::try_from(s[457]) else {
+        return None;
+    };
     let watermark = number_at(s, 464);
-    match s[457] {
-        0 => watermark == 0 && octets::all_are(&s[488..504], 0),
-        1 => watermark <= number_at(s, 460) && s[472..488] != s[488..504],
-        _ => false,
-    }
+    let kept = match stage {
+        Stage::Resting => watermark == 0 && octets::all_are(&s[488..504], 0),
+        Stage::Changing => watermark <= number_at(s, 460) && s[472..488] != s[488..504],
+    };
+    kept.then_some(stage)
 }

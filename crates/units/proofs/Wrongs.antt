@@ -1,14 +1,12 @@
 -- What a line's words say, and what is wrong with them, from what is known of each word.
-use Rattle.std.proofs.Common.{◌≡◌, ℕ, ◌+◌, List, IsErrAnd, Result, sym, refl, subst, ⊎_elim, MatchResult}
+use Rattle.std.proofs.Common.{◌≡◌, ℕ, ◌+◌, List, IsErrAnd, Result, sym, subst, ⊎_elim, MatchResult}
 use Rattle.std.proofs.lemmas.Result.{err_from_is_err_and}
 use Rattle.units.specs.declared.fault.Expected.{Expected}
 use Rattle.units.specs.declared.fault.Expected.TheVariants.{Command as noCommand, Cipher, Key, Number, Input, Result as noResult, End, Memory}
 use Rattle.units.specs.declared.read.Command.{Command}
-use Rattle.units.specs.declared.read.Command.TheVariants.{Block as BlockOf, Unit as UnitsOf}
-use Rattle.units.specs.declared.task.Extent.{Extent}
-use Rattle.units.specs.declared.task.Extent.TheVariants.{Block, Unit as UnitOf}
-use Rattle.units.specs.Words.{word_at, command_word, direction_of, input_place, InHex, InDecimal, Missed}
-use Rattle.units.specs.Lines.{Words, command_of, Numbered, Extends, Unnumbered, Unhexed, Unexpected, Wrong}
+use Rattle.words.specs.Words.{word_at}
+use Rattle.units.specs.Words.{command_word, input_place, InHex, Missed}
+use Rattle.units.specs.Lines.{Words, Unhexed, Unexpected, Wrong}
 
 -- the exit of a `?` hands the error on
 pub exit : {T E : Type 0} (P : T → Type 0) (Q : E → Type 0) (r : Result T E) (e : E) → IsErrAnd r (λ y. y ≡ e) → Q e → MatchResult r P Q
@@ -21,10 +19,6 @@ by_missed Q wanted P e none other missed = ⊎_elim (λ m. subst Q (sym m) none)
 pub unhexed : (word : List ℕ) (ws : Words) (at : ℕ) → word ≡ word_at ws at → ((bytes : List ℕ) → InHex word bytes → ⊥) → Unhexed ws at
 unhexed word ws at e never bytes h = never bytes (subst (λ (w : List ℕ). InHex w bytes) (sym e) h)
 
-pub wrong_number : (ws : Words) (c : Command) (e : Expected) → word_at ws 0 ≡ command_word c → Unnumbered c ws e → Wrong ws e
-wrong_number ws (BlockOf d) e named u = absurd u
-wrong_number ws (UnitsOf d) e named u = by_missed (Wrong ws) Number (InDecimal (word_at ws 3)) e tt (λ none. (d, named, none)) u
-
 pub wrong_end : (ws : Words) (c : Command) (e : Expected) → word_at ws 0 ≡ command_word c → Unexpected ws (input_place c + 1) e → Wrong ws e
 wrong_end ws c noCommand named u = absurd u
 wrong_end ws c Cipher named u = absurd u
@@ -34,16 +28,3 @@ wrong_end ws c Input named u = absurd u
 wrong_end ws c noResult named u = (c, named, u)
 wrong_end ws c End named u = (c, named, u)
 wrong_end ws c Memory named u = tt
-
--- the extent and the direction are those of the command
-pub same_command : (c : Command) (ws : Words) (x : Extent) → Extends c ws x → command_of x (direction_of c) ≡ c
-same_command (BlockOf d) ws Block h = refl
-same_command (BlockOf d) ws (UnitOf n) h = absurd h
-same_command (UnitsOf d) ws Block h = absurd h
-same_command (UnitsOf d) ws (UnitOf n) h = refl
-
-pub numbered : (c : Command) (ws : Words) (x : Extent) → Extends c ws x → Numbered ws x
-numbered (BlockOf d) ws Block h = tt
-numbered (BlockOf d) ws (UnitOf n) h = absurd h
-numbered (UnitsOf d) ws Block h = absurd h
-numbered (UnitsOf d) ws (UnitOf n) h = h

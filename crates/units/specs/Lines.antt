@@ -12,7 +12,8 @@ use Rattle.units.specs.declared.task.Direction.{Direction}
 use Rattle.units.specs.declared.task.Extent.{Extent}
 use Rattle.units.specs.declared.task.Extent.TheVariants.{Block, Unit as UnitOf}
 use Rattle.units.specs.declared.task.Task.{Task}
-use Rattle.units.specs.Words.{word_at, command_word, cipher_word, input_place, InHex, InDecimal, Missed}
+use Rattle.words.specs.Words.{word_at, InDecimal}
+use Rattle.units.specs.Words.{command_word, cipher_word, direction_of, input_place, InHex, Missed}
 
 abbrev pub Words : Type 0
 Words = List (Bor (List ℕ))
@@ -29,10 +30,7 @@ Numbered ws (UnitOf n) = InDecimal (word_at ws 3) n
 
 -- the extent is the command's, with the number of the line
 abbrev pub Extends : Command → Words → Extent → Type 0
-Extends (BlockOf d) ws Block = Unit {0}
-Extends (BlockOf d) ws (UnitOf n) = ⊥
-Extends (UnitsOf d) ws Block = ⊥
-Extends (UnitsOf d) ws (UnitOf n) = InDecimal (word_at ws 3) n
+Extends c ws x = (command_of x (direction_of c) ≡ c) × Numbered ws x
 
 -- the command asks for a number, and the line has none
 abbrev pub Unnumbered : Command → Words → Expected → Type 0

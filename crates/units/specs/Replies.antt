@@ -1,18 +1,17 @@
 -- What is printed of an outcome, and how it is judged.
-use Rattle.std.specs.Prelude.{◌≡◌, ℕ, ◌+◌, ◌-◌, ◌^◌, min, List, ◌++◌, Some, None, vec_items, codes, decimal, Option, Vec}
+use Rattle.std.specs.Prelude.{◌≡◌, ℕ, ◌+◌, ◌-◌, ◌^◌, min, List, ◌++◌, Some, None, Ok, Err, vec_items, codes, decimal, Option, Vec}
 use Rattle.std.specs.declared.alloc.Global.{Global}
 use Rattle.refusal.specs.Numbers.{numbered}
 use Rattle.hex_text.specs.Texts.{hex_text}
 use Rattle.units.specs.declared.reply.Tally.{Tally}
 use Rattle.units.specs.declared.reply.Verdict.{Verdict}
 use Rattle.units.specs.declared.reply.Verdict.TheVariants.{Agrees, Differs}
-use Rattle.units.specs.declared.task.Outcome.{Outcome}
-use Rattle.units.specs.declared.task.Outcome.TheVariants.{Done, Refused}
+use Rattle.units.specs.Runs.{Outcome}
 
 -- the bytes in hex, or the refusal's number
 abbrev pub outcome_text : Outcome → List ℕ
-outcome_text (Done v) = hex_text (vec_items v)
-outcome_text (Refused e) = codes "refused " ++ decimal (numbered e)
+outcome_text (Ok v) = hex_text (vec_items v)
+outcome_text (Err e) = codes "refused " ++ decimal (numbered e)
 
 abbrev pub verdict_word : Verdict → List ℕ
 verdict_word Agrees = codes "ok"
@@ -25,10 +24,10 @@ reply_text o (Some v) = outcome_text o ++ (codes " " ++ verdict_word v)
 
 -- an outcome agrees when it is the bytes that were expected
 abbrev pub Judged : List ℕ → Outcome → Verdict → Type 0
-Judged expected (Done v) Agrees = vec_items v ≡ expected
-Judged expected (Done v) Differs = vec_items v ≡ expected → ⊥
-Judged expected (Refused e) Agrees = ⊥
-Judged expected (Refused e) Differs = Unit {0}
+Judged expected (Ok v) Agrees = vec_items v ≡ expected
+Judged expected (Ok v) Differs = vec_items v ≡ expected → ⊥
+Judged expected (Err e) Agrees = ⊥
+Judged expected (Err e) Differs = Unit {0}
 
 -- there is a verdict where something was expected
 abbrev pub Matched : Option (Vec ℕ Global) → Outcome → Option Verdict → Type 0

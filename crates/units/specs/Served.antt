@@ -6,10 +6,9 @@ use Rattle.units.specs.declared.fault.Expected.TheVariants.{Memory}
 use Rattle.units.specs.declared.read.Line.{Line}
 use Rattle.units.specs.declared.reply.Tally.{Tally}
 use Rattle.units.specs.declared.reply.Verdict.{Verdict}
-use Rattle.units.specs.declared.task.Outcome.{Outcome}
 use Rattle.units.specs.Lines.{Words, Says, Wrong}
-use Rattle.units.specs.Words.{Split}
-use Rattle.units.specs.Runs.{Came}
+use Rattle.words.specs.Words.{Split}
+use Rattle.units.specs.Runs.{Outcome, Came}
 use Rattle.units.specs.Replies.{reply_text, Matched, Counted}
 
 -- the words say a task; what came of it is printed, with the verdict, and counted

@@ -5,9 +5,10 @@ ghost use Rattle.units.specs.Texts.{wanted};
 
 use std::alloc::AllocError;
 use std::{fmt, io};
+use thiserror::Error;
 
 // What a line should have had at the place where it went wrong.
-#[derive(Clone, Copy)]
+#[derive(Clone, Copy, Debug)]
 pub enum Expected {
     Command,
     Cipher,
@@ -19,11 +20,12 @@ pub enum Expected {
     Memory,
 }
 
-impl Expected {
-    fn text(self) -> &'static str
-        ensures { result.now ≡ wanted self }
-    {
-        match self {
+// Written by hand, since the Display that thiserror derives promises no text.
+impl fmt::Display for Expected {
+    ghost output = { λ e. Some (wanted e) };
+
+    fn fmt<W: fmt::Write>(&self, f: &mut fmt::Formatter<W>) -> fmt::Result {
+        f.pad(match self {
             Expected::Command => "block, block-back, unit or unit-back",
             Expected::Cipher => "aes256 or speck",
             Expected::Key => "KEY in hex",
@@ -32,18 +34,11 @@ impl Expected {
             Expected::Result => "EXPECTED in hex",
             Expected::End => "nothing after EXPECTED",
             Expected::Memory => "more memory",
-        }
+        })
     }
 }
 
-impl fmt::Display for Expected {
-    ghost output = { λ e. Some (wanted e) };
-
-    fn fmt<W: fmt::Write>(&self, f: &mut fmt::Formatter<W>) -> fmt::Result {
-        f.pad(self.text())
-    }
-}
-
+// Written by hand, since a derived From does not say which error it makes.
 impl From<AllocError> for Expected {
     ghost from_gives = { λ _ r. r ≡ noMemory };
 
@@ -52,23 +47,10 @@ impl From<AllocError> for Expected {
     }
 }
 
-#[derive(Drop)]
+#[derive(Debug, Drop, Error)]
 pub enum Fault {
+    #[error("line {0}: expected {1}")]
     Line(u64, Expected),
-    Io(io::Error),
-}
-
-impl From<io::Error> for Fault {
-    fn from(e: io::Error) -> Fault {
-        Fault::Io(e)
-    }
-}
-
-impl fmt::Debug for Fault {
-    fn fmt<W: fmt::Write>(&self, f: &mut fmt::Formatter<W>) -> fmt::Result {
-        match self {
-            Fault::Line(number, expected) => write!(f, "line {number}: expected {expected}"),
-            Fault::Io(e) => write!(f, "{e}"),
-        }
-    }
+    #[error(transparent)]
+    Io(#[from] io::Error),
 }

@@ -22,7 +22,7 @@ fn serve(heap: Global, words: &[&str], tally: &mut Tally) -> Result<String, Expe
     ensures { MatchResult result (λ s. Served words.now tally.old tally.new (string_bytes s)) (λ e. Wrong words.now e) }
 {
     let line = Line::read(heap, words)?;
-    let outcome = run::run(heap, &line.task)?;
+    let outcome = line.task.run(heap)?;
     let verdict = Verdict::of(&outcome, &line.expected);
     tally.count(verdict);
     Ok(reply::reply(heap, &outcome, verdict)?)
@@ -32,7 +32,7 @@ fn serve(heap: Global, words: &[&str], tally: &mut Tally) -> Result<String, Expe
 fn reply_to(heap: Global, line: &str, tally: &mut Tally) -> Result<Option<String>, Expected>
     ensures { MatchResult result (λ o. Replied line.now tally.old tally.new o) (λ e. Unread line.now e) }
 {
-    let words = read::words(heap, line)?;
+    let words = words::split(heap, line)?;
     if words.is_empty() {
         return Ok(None);
     }
@@ -41,28 +41,21 @@ fn reply_to(heap: Global, line: &str, tally: &mut Tally) -> Result<Option<String
 
 fn serve_all(rt: &HostRuntime) -> Result<(), Fault> {
     let heap = rt.alloc();
-    let mut tally = Tally {
-        agreed: 0,
-        differed: 0,
-    };
-    let mut number = 0u64;
-    for line in BufReader::new(heap, rt.stdin())?.lines(heap) {
-        let line = line?;
-        number = number.saturating_add(1);
-        match reply_to(heap, &line, &mut tally) {
-            Ok(Some(reply)) => rt.println(reply)?,
-            Ok(None) => {}
-            Err(expected) => return Err(Fault::Line(number, expected)),
+    let mut tally = Tally::default();
+    let lines = BufReader::new(heap, rt.stdin())?.lines(heap);
+    for (number, line) in (1..=u64::MAX).zip(lines) {
+        let reply = reply_to(heap, &line?, &mut tally).map_err(|e| Fault::Line(number, e))?;
+        if let Some(reply) = reply {
+            rt.println(reply)?;
         }
     }
-    let agreed = tally.agreed;
-    let differed = tally.differed;
-    println!(rt; "{agreed} agreed, {differed} differed")?;
+    println!(rt; "{} agreed, {} differed", tally.agreed, tally.differed)?;
     Ok(())
 }
 
-fn main(rt: HostRuntime) -> Result<(), Fault> {
-    serve_all(&rt)
+fn main(rt: HostRuntime) -> anyhow::Result<()> {
+    serve_all(&rt)?;
+    Ok(())
 }
 
 #[cfg(test)]
@@ -98,14 +91,11 @@ mod tests {
     fn bad_lines_are_named(rt: HostRuntime) -> Result<(), Fail> {
         let heap = rt.alloc();
         for (line, wanted) in BAD_LINES {
-            let mut tally = Tally {
-                agreed: 0,
-                differed: 0,
-            };
+            let mut tally = Tally::default();
             let Err(expected) = reply_to(heap, line, &mut tally) else {
                 return Err(Fail::new("a bad line was read"));
             };
-            let fault = Fault::Line(7, expected);
+            let fault = anyhow::Error::from(Fault::Line(7, expected));
             let said = format!(in heap; "{fault:?}")?;
             let should = format!(in heap; "line 7: expected {wanted}")?;
             assert_eq!(rt; said, should);

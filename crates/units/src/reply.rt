@@ -6,13 +6,14 @@ use crate::task::Outcome;
 use std::alloc::{AllocError, Global};
 use std::fmt;
 
-// How an outcome stands to what was expected of it.
+// How an outcome stands to what was expected of it: two names that are printed, which a bool has not.
 #[derive(Clone, Copy)]
 pub enum Verdict {
     Agrees,
     Differs,
 }
 
+// Written by hand, since no derive promises the text.
 impl fmt::Display for Verdict {
     ghost output = { λ v. Some (verdict_word v) };
 
@@ -29,11 +30,8 @@ fn bare(heap: Global, outcome: &Outcome) -> Result<String, AllocError>
     ensures { IfOk result (λ s. string_bytes s ≡ outcome_text outcome.now) }
 {
     match outcome {
-        Outcome::Done(bytes) => hex_text::encode(heap, bytes),
-        Outcome::Refused(refusal) => {
-            let number = refusal.number();
-            format!(in heap; "refused {number}")
-        }
+        Ok(bytes) => hex_text::encode(heap, bytes),
+        Err(refusal) => format!(in heap; "refused {}", u8::from(*refusal)),
     }
 }
 
@@ -57,14 +55,8 @@ impl Verdict {
         ensures { Judged expected.now outcome.now result }
     {
         match outcome {
-            Outcome::Done(bytes) => {
-                if bytes.as_slice() == expected {
-                    Verdict::Agrees
-                } else {
-                    Verdict::Differs
-                }
-            }
-            Outcome::Refused(_) => Verdict::Differs,
+            Ok(bytes) if bytes.as_slice() == expected => Verdict::Agrees,
+            _ => Verdict::Differs,
         }
     }
 
@@ -72,15 +64,12 @@ impl Verdict {
     pub fn of(outcome: &Outcome, expected: &Option<Vec<u8>>) -> Option<Verdict>
         ensures { Matched expected.now outcome.now result }
     {
-        match expected {
-            Some(bytes) => Some(Verdict::on(outcome, bytes)),
-            None => None,
-        }
+        expected.as_ref().map(|bytes| Verdict::on(outcome, bytes))
     }
 }
 
 // How many outcomes agreed with what was expected, and how many did not.
-#[derive(Clone, Copy)]
+#[derive(Clone, Copy, Default)]
 pub struct Tally {
     pub agreed: u64,
     pub differed: u64,

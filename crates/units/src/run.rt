@@ -1,7 +1,7 @@
 // Runs a task.
-ghost use Rattle.std.specs.Prelude.{IfOk};
+ghost use Rattle.std.specs.Prelude.{◌≡◌, IfOk, vec_items};
 ghost use Rattle.xts.specs.Calls.{call_demands, Makes};
-ghost use Rattle.units.specs.Runs.{Answered, block_demands, block_map, unit_map, Ran, Came};
+ghost use Rattle.units.specs.Runs.{block_demands, block_map, unit_map, forward_of, back_of, Passed, Came};
 
 use crate::task::{CipherName, Direction, Extent, Outcome, Task};
 use aes::Aes;
@@ -10,79 +10,56 @@ use refusal::Refusal;
 use speck::Speck;
 use std::alloc::{AllocError, Global};
 
-fn block<C: Cipher + Drop>(
-    heap: Global,
-    direction: Direction,
-    key: &[u8],
-    input: &[u8],
-) -> Result<Outcome, AllocError>
-    ensures { IfOk result (λ o. Answered (block_demands key.now input.now) (block_map C.Cipher.forward C.Cipher.back direction key.now input.now) o) }
-{
-    if key.len() != 32 {
-        return Ok(Outcome::Refused(Refusal::WrongLength));
+impl Task {
+    // One block in place, under a key of the cipher's own length.
+    fn pass_block<C: Cipher + Drop>(&self, block: &mut [u8]) -> Result<(), Refusal>
+        ensures { Makes (block_demands (vec_items self.now.key) block.old) (block_map C.Cipher.forward C.Cipher.back self.now.direction (vec_items self.now.key) block.old) block.old result block.new }
+    {
+        let key = <&[u8; 32]>::try_from(self.key.as_slice()).map_err(|_| Refusal::WrongLength)?;
+        let mut whole = <[u8; 16]>::try_from(&block[..]).map_err(|_| Refusal::WrongLength)?;
+        let cipher = C::new(key);
+        match self.direction {
+            Direction::Forward => cipher.encipher(&mut whole),
+            Direction::Back => cipher.decipher(&mut whole),
+        }
+        block.copy_from_slice(&whole);
+        Ok(())
     }
-    if input.len() != 16 {
-        return Ok(Outcome::Refused(Refusal::WrongLength));
-    }
-    let mut whole = [0u8; 32];
-    whole.copy_from_slice(key);
-    let mut block = [0u8; 16];
-    block.copy_from_slice(input);
-    let cipher = C::new(&whole);
-    match direction {
-        Direction::Forward => cipher.encipher(&mut block),
-        Direction::Back => cipher.decipher(&mut block),
-    }
-    Ok(Outcome::Done(Vec::from_slice(heap, &block)?))
-}
 
-// The two ways of XTS.
-fn pass<C: Cipher + Drop>(
-    direction: Direction,
-    key: &[u8],
-    number: u64,
-    input: &[u8],
-    output: &mut [u8],
-) -> Result<(), Refusal>
-    ensures { Makes (call_demands key.now input.now output.old) (unit_map C.Cipher.forward C.Cipher.back direction key.now number input.now) output.old result output.new }
-{
-    match direction {
-        Direction::Forward => xts::encipher::<C>(key, number, input, output),
-        Direction::Back => xts::decipher::<C>(key, number, input, output),
+    fn pass_unit<C: Cipher + Drop>(&self, number: u64, output: &mut [u8]) -> Result<(), Refusal>
+        ensures { Makes (call_demands (vec_items self.now.key) (vec_items self.now.input) output.old) (unit_map C.Cipher.forward C.Cipher.back self.now.direction (vec_items self.now.key) number (vec_items self.now.input)) output.old result output.new }
+    {
+        match self.direction {
+            Direction::Forward => xts::encipher::<C>(&self.key, number, &self.input, output),
+            Direction::Back => xts::decipher::<C>(&self.key, number, &self.input, output),
+        }
     }
-}
 
-// A unit into an output of its own length.
-fn unit<C: Cipher + Drop>(
-    heap: Global,
-    direction: Direction,
-    key: &[u8],
-    number: u64,
-    input: &[u8],
-) -> Result<Outcome, AllocError>
-    ensures { IfOk result (λ o. Answered (call_demands key.now input.now input.now) (unit_map C.Cipher.forward C.Cipher.back direction key.now number input.now) o) }
-{
-    let mut output = Vec::from_slice(heap, input)?;
-    match pass::<C>(direction, key, number, input, output.as_mut_slice()) {
-        Ok(()) => Ok(Outcome::Done(output)),
-        Err(refusal) => Ok(Outcome::Refused(refusal)),
+    fn pass_by<C: Cipher + Drop>(&self, output: &mut [u8]) -> Result<(), Refusal>
+        requires { output.old ≡ vec_items self.now.input }
+        ensures { Passed C.Cipher.forward C.Cipher.back self.now output.old result output.new }
+    {
+        match self.extent {
+            Extent::Block => self.pass_block::<C>(output),
+            Extent::Unit(number) => self.pass_unit::<C>(number, output),
+        }
     }
-}
 
-fn run_by<C: Cipher + Drop>(heap: Global, task: &Task) -> Result<Outcome, AllocError>
-    ensures { IfOk result (λ o. Ran C.Cipher.forward C.Cipher.back task.now o) }
-{
-    match task.extent {
-        Extent::Block => block::<C>(heap, task.direction, &task.key, &task.input),
-        Extent::Unit(number) => unit::<C>(heap, task.direction, &task.key, number, &task.input),
+    // Turns its input, which the output holds, into its bytes.
+    fn pass(&self, output: &mut [u8]) -> Result<(), Refusal>
+        requires { output.old ≡ vec_items self.now.input }
+        ensures { Passed (forward_of self.now.cipher) (back_of self.now.cipher) self.now output.old result output.new }
+    {
+        match self.cipher {
+            CipherName::Aes256 => self.pass_by::<Aes>(output),
+            CipherName::Speck => self.pass_by::<Speck>(output),
+        }
     }
-}
 
-pub fn run(heap: Global, task: &Task) -> Result<Outcome, AllocError>
-    ensures { IfOk result (λ o. Came task.now o) }
-{
-    match task.cipher {
-        CipherName::Aes256 => run_by::<Aes>(heap, task),
-        CipherName::Speck => run_by::<Speck>(heap, task),
+    pub fn run(&self, heap: Global) -> Result<Outcome, AllocError>
+        ensures { IfOk result (λ o. Came self.now o) }
+    {
+        let mut output = Vec::from_slice(heap, &self.input)?;
+        Ok(self.pass(&mut output).map(|()| output))
     }
 }

@@ -1,12 +1,14 @@
 // A task: what to encipher or decipher, by which cipher and under which key; and what came of it.
 use refusal::Refusal;
 
+// `drive` has the same two names: a crate for them, with an error of its own, would be longer.
 #[derive(Clone, Copy)]
 pub enum CipherName {
     Aes256,
     Speck,
 }
 
+// Read from a line, so it is a value: two matches with two arms are plainer than closures that a match would choose.
 #[derive(Clone, Copy)]
 pub enum Direction {
     Forward,
@@ -29,8 +31,4 @@ pub struct Task {
     pub input: Vec<u8>,
 }
 
-#[derive(Drop)]
-pub enum Outcome {
-    Done(Vec<u8>),
-    Refused(Refusal),
-}
+pub type Outcome = Result<Vec<u8>, Refusal>;

@@ -1,3 +1,4 @@
-pub mod Loads
+pub mod Powers
 pub mod Looks
-pub mod Puts
+pub mod Loads
+pub mod Kept

@@ -2,12 +2,11 @@
 use Rattle.std.specs.Prelude.{◌≡◌, ℕ, List, [], ◌∷◌, length, replicate, Some, None, Ok, Err, Option, Result, ◌≢◌}
 use Rattle.std.specs.Borrow.{Bor}
 use Rattle.refusal.specs.declared.Refusal.{Refusal}
-use Rattle.trailer.specs.declared.kept.Stage.{Stage}
-use Rattle.trailer.specs.declared.kept.Stage.TheVariants.{Resting, Changing}
+use Rattle.trailer.specs.declared.stage.Stage.{Stage}
 use Rattle.law.specs.Calls.{Reply}
 pub use Rattle.law.specs.Calls.{read_into, KeptIfRefused}
 use Rattle.volume.specs.declared.permits.Permit.{Permit}
-use Rattle.volume.specs.declared.permits.Permit.TheVariants as permit
+use Rattle.volume.specs.Permits.{stage_held}
 
 -- the keys that a load is given
 abbrev pub given_keys : List ℕ → Option (Bor (List ℕ)) → List (List ℕ)
@@ -16,8 +15,7 @@ given_keys a (Some b) = a ∷ b.now ∷ []
 
 -- the stage of the permit that a claim hands out
 abbrev pub stage_of : Result Permit Refusal → Result Stage Refusal
-stage_of (Ok (permit.Resting p)) = Ok Resting
-stage_of (Ok (permit.Changing p)) = Ok Changing
+stage_of (Ok p) = Ok (stage_held p)
 stage_of (Err e) = Err e
 
 -- a begin or a finish that is refused gives its permit back

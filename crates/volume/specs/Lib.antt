@@ -1,4 +1,5 @@
 pub mod States
 pub mod Looks
+pub mod Permits
 pub mod Answers
 pub mod Steadiness

@@ -1,15 +1,15 @@
 // The calls of a volume that are no calls of a card.
 ghost use Rattle.std.specs.Prelude.{◌≡◌, Bool, false, [], length};
-ghost use Rattle.law.specs.Suites.{suite};
+ghost use Rattle.keys.specs.Rings.{suite_of};
 ghost use Rattle.law.specs.Calls.{Loaded, Formatted, Claimed, Begun, Stepped, Finished, HandedIn};
 ghost use Rattle.showing.specs.Showing.{Kept, KeptUnlessLoaded, ShowsFormatted};
 ghost use Rattle.volume.specs.States.{state_of};
-ghost use Rattle.volume.specs.Looks.{Looked};
+ghost use Rattle.volume.specs.Looks.{Looked, Fitted};
 ghost use Rattle.volume.specs.Answers.{given_keys, stage_of, verdict, Wiped};
 
 use crate::permits::{Changing, Permit, Resting};
 use crate::state::{Seen, Volume};
-use card::{Card, WholeStore};
+use card::{Card, SECTOR_BYTES, WholeStore};
 use keys::{Keyring, LoadedKey};
 use refusal::Refusal;
 use trailer::{Stage, Trailer};
@@ -17,7 +17,7 @@ use trailer::{Stage, Trailer};
 impl<K: LoadedKey + Drop, S: WholeStore> Volume<K, S> {
     // A volume over a store, with no key loaded.
     pub fn new(store: S) -> Volume<K, S>
-        ensures state { state_of K.LoadedKey.bytes S.Card.meaning result ≡ record { store = S.Card.meaning store; keys = []; out = false } }
+        ensures state { state_of K.LoadedKey S.Card result ≡ record { store = S.Card.meaning store; keys = []; out = false } }
         ensures below { result.store ≡ store }
     {
         Volume {
@@ -38,7 +38,7 @@ impl<K: LoadedKey + Drop, S: WholeStore> Volume<K, S> {
             return Ok(None);
         }
         let last = total - 1;
-        let mut sector = [0u8; 520];
+        let mut sector = [0u8; SECTOR_BYTES];
         self.store.read(last, &mut sector)?;
         match Trailer::decode(&sector, K::own_number(), last) {
             None => Ok(None),
@@ -46,17 +46,30 @@ impl<K: LoadedKey + Drop, S: WholeStore> Volume<K, S> {
         }
     }
 
+    // The trailer, which has to be valid, and which the loaded keys have to fit.
+    fn look_fitting(&mut self) -> Result<Seen, Refusal>
+        ensures { Fitted (suite_of K.LoadedKey) (state_of K.LoadedKey S.Card self.old) result (state_of K.LoadedKey S.Card self.new) }
+    {
+        let Some(seen) = self.look()? else {
+            return Err(Refusal::InvalidTrailer);
+        };
+        if !self.keys.fits(&seen.trailer) {
+            return Err(Refusal::UnfitKey);
+        }
+        Ok(seen)
+    }
+
     // Takes one or two keys in place of those loaded.
     pub fn load(&mut self, first: &[u8], second: Option<&[u8]>) -> Result<(), Refusal>
-        ensures does { Loaded (suite K.LoadedKey.numbered K.LoadedKey.forward K.LoadedKey.back) (state_of K.LoadedKey.bytes S.Card.meaning self.old) (given_keys first.now second.entry) result (state_of K.LoadedKey.bytes S.Card.meaning self.new) }
-        ensures shows { KeptUnlessLoaded (suite K.LoadedKey.numbered K.LoadedKey.forward K.LoadedKey.back) (state_of K.LoadedKey.bytes S.Card.meaning self.old) result (state_of K.LoadedKey.bytes S.Card.meaning self.new) }
+        ensures does { Loaded (suite_of K.LoadedKey) (state_of K.LoadedKey S.Card self.old) (given_keys first.now second.entry) result (state_of K.LoadedKey S.Card self.new) }
+        ensures shows { KeptUnlessLoaded (suite_of K.LoadedKey) (state_of K.LoadedKey S.Card self.old) result (state_of K.LoadedKey S.Card self.new) }
     {
         self.take_keys(first, second)
     }
 
     // All lengths are tested before the halves.
     fn take_keys(&mut self, first: &[u8], second: Option<&[u8]>) -> Result<(), Refusal>
-        ensures { Loaded (suite K.LoadedKey.numbered K.LoadedKey.forward K.LoadedKey.back) (state_of K.LoadedKey.bytes S.Card.meaning self.old) (given_keys first.now second.entry) result (state_of K.LoadedKey.bytes S.Card.meaning self.new) }
+        ensures { Loaded (suite_of K.LoadedKey) (state_of K.LoadedKey S.Card self.old) (given_keys first.now second.entry) result (state_of K.LoadedKey S.Card self.new) }
     {
         if self.permit_out {
             return Err(Refusal::PermitOut);
@@ -75,21 +88,21 @@ impl<K: LoadedKey + Drop, S: WholeStore> Volume<K, S> {
 
     // Puts a resting trailer under the first key loaded, and nothing else.
     pub fn format(&mut self, reach: u32, label: &[u8]) -> Result<(), Refusal>
-        ensures does { (took : Bool) × Formatted (suite K.LoadedKey.numbered K.LoadedKey.forward K.LoadedKey.back) (state_of K.LoadedKey.bytes S.Card.meaning self.old) reach label.now took result (state_of K.LoadedKey.bytes S.Card.meaning self.new) }
-        ensures shows { ShowsFormatted (suite K.LoadedKey.numbered K.LoadedKey.forward K.LoadedKey.back) (state_of K.LoadedKey.bytes S.Card.meaning self.old) reach result (state_of K.LoadedKey.bytes S.Card.meaning self.new) }
+        ensures does { (took : Bool) × Formatted (suite_of K.LoadedKey) (state_of K.LoadedKey S.Card self.old) reach label.now took result (state_of K.LoadedKey S.Card self.new) }
+        ensures shows { ShowsFormatted (suite_of K.LoadedKey) (state_of K.LoadedKey S.Card self.old) reach result (state_of K.LoadedKey S.Card self.new) }
     {
         self.put_fresh(reach, label)
     }
 
     fn put_fresh(&mut self, reach: u32, label: &[u8]) -> Result<(), Refusal>
-        ensures { (took : Bool) × Formatted (suite K.LoadedKey.numbered K.LoadedKey.forward K.LoadedKey.back) (state_of K.LoadedKey.bytes S.Card.meaning self.old) reach label.now took result (state_of K.LoadedKey.bytes S.Card.meaning self.new) }
+        ensures { (took : Bool) × Formatted (suite_of K.LoadedKey) (state_of K.LoadedKey S.Card self.old) reach label.now took result (state_of K.LoadedKey S.Card self.new) }
     {
         if self.permit_out {
             return Err(Refusal::PermitOut);
         }
-        if label.len() != 16 {
+        let Ok(own) = <[u8; 16]>::try_from(label) else {
             return Err(Refusal::WrongLength);
-        }
+        };
         let total = self.store.count()?;
         if reach == 0 || reach >= total {
             return Err(Refusal::OutOfRange);
@@ -97,70 +110,42 @@ impl<K: LoadedKey + Drop, S: WholeStore> Volume<K, S> {
         let Some(key) = self.keys.first() else {
             return Err(Refusal::UnfitKey);
         };
-        let mut own = [0u8; 16];
-        own.copy_from_slice(label);
-        let fresh = Trailer {
-            stage: Stage::Resting,
-            reach,
-            watermark: 0,
-            first: key.check(),
-            second: [0u8; 16],
-            label: own,
-        };
+        let fresh = Trailer::fresh(reach, key.check(), own);
         self.store
             .put_one(total - 1, &fresh.encode(K::own_number()))
     }
 
     // Hands out a permit by the trailer's stage; it is out until it is handed in.
     pub fn claim(&mut self) -> Result<Permit, Refusal>
-        ensures does { Claimed (suite K.LoadedKey.numbered K.LoadedKey.forward K.LoadedKey.back) (state_of K.LoadedKey.bytes S.Card.meaning self.old) (stage_of result) (state_of K.LoadedKey.bytes S.Card.meaning self.new) }
-        ensures shows { Kept (suite K.LoadedKey.numbered K.LoadedKey.forward K.LoadedKey.back) (state_of K.LoadedKey.bytes S.Card.meaning self.old) (state_of K.LoadedKey.bytes S.Card.meaning self.new) }
+        ensures does { Claimed (suite_of K.LoadedKey) (state_of K.LoadedKey S.Card self.old) (stage_of result) (state_of K.LoadedKey S.Card self.new) }
+        ensures shows { Kept (suite_of K.LoadedKey) (state_of K.LoadedKey S.Card self.old) (state_of K.LoadedKey S.Card self.new) }
     {
         self.hand_out()
     }
 
     fn hand_out(&mut self) -> Result<Permit, Refusal>
-        ensures { Claimed (suite K.LoadedKey.numbered K.LoadedKey.forward K.LoadedKey.back) (state_of K.LoadedKey.bytes S.Card.meaning self.old) (stage_of result) (state_of K.LoadedKey.bytes S.Card.meaning self.new) }
+        ensures { Claimed (suite_of K.LoadedKey) (state_of K.LoadedKey S.Card self.old) (stage_of result) (state_of K.LoadedKey S.Card self.new) }
     {
         if self.permit_out {
             return Err(Refusal::PermitOut);
         }
-        let Some(seen) = self.look()? else {
-            return Err(Refusal::InvalidTrailer);
-        };
-        if !self.keys.fits(&seen.trailer) {
-            return Err(Refusal::UnfitKey);
-        }
+        let seen = self.look_fitting()?;
         self.permit_out = true;
-        match seen.trailer.stage {
-            Stage::Resting => Ok(Permit::Resting(Resting::issue())),
-            Stage::Changing => Ok(Permit::Changing(Changing::issue())),
-        }
+        Ok(Permit::issue(seen.trailer.stage))
     }
 
     // Begins a change to the other loaded key. A refusal gives the permit back.
     pub fn begin(&mut self, permit: Resting) -> Result<Changing, (Refusal, Resting)>
-        ensures does { (took : Bool) × Begun (suite K.LoadedKey.numbered K.LoadedKey.forward K.LoadedKey.back) (state_of K.LoadedKey.bytes S.Card.meaning self.old) took (verdict result) (state_of K.LoadedKey.bytes S.Card.meaning self.new) }
-        ensures shows { Kept (suite K.LoadedKey.numbered K.LoadedKey.forward K.LoadedKey.back) (state_of K.LoadedKey.bytes S.Card.meaning self.old) (state_of K.LoadedKey.bytes S.Card.meaning self.new) }
+        ensures does { (took : Bool) × Begun (suite_of K.LoadedKey) (state_of K.LoadedKey S.Card self.old) took (verdict result) (state_of K.LoadedKey S.Card self.new) }
+        ensures shows { Kept (suite_of K.LoadedKey) (state_of K.LoadedKey S.Card self.old) (state_of K.LoadedKey S.Card self.new) }
     {
-        match self.put_begun() {
-            Ok(()) => {
-                permit.spend();
-                Ok(Changing::issue())
-            }
-            Err(e) => Err((e, permit)),
-        }
+        permit.exchanged(self.put_begun())
     }
 
     fn put_begun(&mut self) -> Result<(), Refusal>
-        ensures { (took : Bool) × Begun (suite K.LoadedKey.numbered K.LoadedKey.forward K.LoadedKey.back) (state_of K.LoadedKey.bytes S.Card.meaning self.old) took result (state_of K.LoadedKey.bytes S.Card.meaning self.new) }
+        ensures { (took : Bool) × Begun (suite_of K.LoadedKey) (state_of K.LoadedKey S.Card self.old) took result (state_of K.LoadedKey S.Card self.new) }
     {
-        let Some(seen) = self.look()? else {
-            return Err(Refusal::InvalidTrailer);
-        };
-        if !self.keys.fits(&seen.trailer) {
-            return Err(Refusal::UnfitKey);
-        }
+        let seen = self.look_fitting()?;
         let old = seen.trailer;
         if let Stage::Changing = old.stage {
             return Err(Refusal::WrongStage);
@@ -168,14 +153,7 @@ impl<K: LoadedKey + Drop, S: WholeStore> Volume<K, S> {
         let Some(other) = self.keys.other(&old.first) else {
             return Err(Refusal::UnfitKey);
         };
-        let begun = Trailer {
-            stage: Stage::Changing,
-            reach: old.reach,
-            watermark: 0,
-            first: old.first,
-            second: other.check(),
-            label: old.label,
-        };
+        let begun = old.begun(other.check());
         self.store
             .put_one(seen.last, &begun.encode(K::own_number()))
     }
@@ -183,51 +161,38 @@ impl<K: LoadedKey + Drop, S: WholeStore> Volume<K, S> {
     // Moves one data sector to the new key and answers the new watermark. However it leaves once the work buffer had the
     // right length, that buffer is all zero: it held the sector in clear.
     pub fn step(&mut self, _permit: &Changing, work: &mut [u8]) -> Result<u32, Refusal>
-        ensures does { (took : Bool) × Stepped (suite K.LoadedKey.numbered K.LoadedKey.forward K.LoadedKey.back) (state_of K.LoadedKey.bytes S.Card.meaning self.old) (length work.old) took result (state_of K.LoadedKey.bytes S.Card.meaning self.new) }
+        ensures does { (took : Bool) × Stepped (suite_of K.LoadedKey) (state_of K.LoadedKey S.Card self.old) (length work.old) took result (state_of K.LoadedKey S.Card self.new) }
         ensures wiped { Wiped work.old work.new }
-        ensures shows { Kept (suite K.LoadedKey.numbered K.LoadedKey.forward K.LoadedKey.back) (state_of K.LoadedKey.bytes S.Card.meaning self.old) (state_of K.LoadedKey.bytes S.Card.meaning self.new) }
+        ensures shows { Kept (suite_of K.LoadedKey) (state_of K.LoadedKey S.Card self.old) (state_of K.LoadedKey S.Card self.new) }
     {
-        if work.len() != 520 {
+        if work.len() != SECTOR_BYTES {
             return Err(Refusal::WrongLength);
         }
         let reply = self.move_one(work);
-        work.copy_from_slice(&[0u8; 520]);
+        work.fill(0);
         reply
     }
 
     // The data sector at the watermark, under the new key, and the trailer go in one put.
     fn move_one(&mut self, work: &mut [u8]) -> Result<u32, Refusal>
         requires { length work.old ≡ 520 }
-        ensures does { (took : Bool) × Stepped (suite K.LoadedKey.numbered K.LoadedKey.forward K.LoadedKey.back) (state_of K.LoadedKey.bytes S.Card.meaning self.old) 520 took result (state_of K.LoadedKey.bytes S.Card.meaning self.new) }
+        ensures does { (took : Bool) × Stepped (suite_of K.LoadedKey) (state_of K.LoadedKey S.Card self.old) 520 took result (state_of K.LoadedKey S.Card self.new) }
         ensures long { length work.new ≡ 520 }
     {
-        let Some(seen) = self.look()? else {
-            return Err(Refusal::InvalidTrailer);
-        };
-        if !self.keys.fits(&seen.trailer) {
-            return Err(Refusal::UnfitKey);
-        }
+        let seen = self.look_fitting()?;
         let old = seen.trailer;
         if let Stage::Resting = old.stage {
             return Err(Refusal::WrongStage);
         }
-        if old.watermark >= old.reach {
+        let Some(next) = old.moved() else {
             return Err(Refusal::NothingLeft);
-        }
+        };
         let from = self.keys.having(&old.first).unwrap();
         let to = self.keys.having(&old.second).unwrap();
-        let place = seen.last - old.reach + old.watermark;
+        let place = seen.place(old.watermark);
         self.store.read(place, work)?;
-        from.open(old.watermark as u64, work)?;
-        to.seal(old.watermark as u64, work)?;
-        let next = Trailer {
-            stage: old.stage,
-            reach: old.reach,
-            watermark: old.watermark + 1,
-            first: old.first,
-            second: old.second,
-            label: old.label,
-        };
+        from.open(u64::from(old.watermark), work)?;
+        to.seal(u64::from(old.watermark), work)?;
         self.store
             .put_two(place, work, seen.last, &next.encode(K::own_number()))?;
         Ok(next.watermark)
@@ -235,27 +200,16 @@ impl<K: LoadedKey + Drop, S: WholeStore> Volume<K, S> {
 
     // Ends a change once no sector is left: the new key is the volume's. A refusal gives the permit back.
     pub fn finish(&mut self, permit: Changing) -> Result<Resting, (Refusal, Changing)>
-        ensures does { (took : Bool) × Finished (suite K.LoadedKey.numbered K.LoadedKey.forward K.LoadedKey.back) (state_of K.LoadedKey.bytes S.Card.meaning self.old) took (verdict result) (state_of K.LoadedKey.bytes S.Card.meaning self.new) }
-        ensures shows { Kept (suite K.LoadedKey.numbered K.LoadedKey.forward K.LoadedKey.back) (state_of K.LoadedKey.bytes S.Card.meaning self.old) (state_of K.LoadedKey.bytes S.Card.meaning self.new) }
+        ensures does { (took : Bool) × Finished (suite_of K.LoadedKey) (state_of K.LoadedKey S.Card self.old) took (verdict result) (state_of K.LoadedKey S.Card self.new) }
+        ensures shows { Kept (suite_of K.LoadedKey) (state_of K.LoadedKey S.Card self.old) (state_of K.LoadedKey S.Card self.new) }
     {
-        match self.put_finished() {
-            Ok(()) => {
-                permit.spend();
-                Ok(Resting::issue())
-            }
-            Err(e) => Err((e, permit)),
-        }
+        permit.exchanged(self.put_finished())
     }
 
     fn put_finished(&mut self) -> Result<(), Refusal>
-        ensures { (took : Bool) × Finished (suite K.LoadedKey.numbered K.LoadedKey.forward K.LoadedKey.back) (state_of K.LoadedKey.bytes S.Card.meaning self.old) took result (state_of K.LoadedKey.bytes S.Card.meaning self.new) }
+        ensures { (took : Bool) × Finished (suite_of K.LoadedKey) (state_of K.LoadedKey S.Card self.old) took result (state_of K.LoadedKey S.Card self.new) }
     {
-        let Some(seen) = self.look()? else {
-            return Err(Refusal::InvalidTrailer);
-        };
-        if !self.keys.fits(&seen.trailer) {
-            return Err(Refusal::UnfitKey);
-        }
+        let seen = self.look_fitting()?;
         let old = seen.trailer;
         if let Stage::Resting = old.stage {
             return Err(Refusal::WrongStage);
@@ -263,30 +217,16 @@ impl<K: LoadedKey + Drop, S: WholeStore> Volume<K, S> {
         if old.watermark < old.reach {
             return Err(Refusal::SectorsLeft);
         }
-        let first = old.second;
-        let second = [0u8; 16];
-        let label = old.label;
-        let finished = Trailer {
-            stage: Stage::Resting,
-            reach: old.reach,
-            watermark: 0,
-            first,
-            second,
-            label,
-        };
         self.store
-            .put_one(seen.last, &finished.encode(K::own_number()))
+            .put_one(seen.last, &old.finished().encode(K::own_number()))
     }
 
     // Takes back either permit.
     pub fn hand_in(&mut self, permit: Permit)
-        ensures does { HandedIn (suite K.LoadedKey.numbered K.LoadedKey.forward K.LoadedKey.back) (state_of K.LoadedKey.bytes S.Card.meaning self.old) (state_of K.LoadedKey.bytes S.Card.meaning self.new) }
-        ensures shows { Kept (suite K.LoadedKey.numbered K.LoadedKey.forward K.LoadedKey.back) (state_of K.LoadedKey.bytes S.Card.meaning self.old) (state_of K.LoadedKey.bytes S.Card.meaning self.new) }
+        ensures does { HandedIn (suite_of K.LoadedKey) (state_of K.LoadedKey S.Card self.old) (state_of K.LoadedKey S.Card self.new) }
+        ensures shows { Kept (suite_of K.LoadedKey) (state_of K.LoadedKey S.Card self.old) (state_of K.LoadedKey S.Card self.new) }
     {
-        match permit {
-            Permit::Resting(p) => p.spend(),
-            Permit::Changing(p) => p.spend(),
-        }
+        permit.spend();
         self.permit_out = false;
     }
 }

@@ -2,52 +2,55 @@
 // make one, and a program that lets one go is refused: its drop asks that it was spent, which only a call of the volume
 // can show.
 ghost use Rattle.std.specs.Prelude.{◌≡◌, true};
+ghost use Rattle.volume.specs.Permits.{stage_held};
+ghost use Rattle.volume.specs.Answers.{verdict};
+
+use refusal::Refusal;
+use trailer::Stage;
+
+// A permit for a key that rests, or where CHANGING for one that changes.
+pub struct Token<const CHANGING: bool> {
+    // whether a call has taken it: then it is over, and may go
+    spent: bool,
+}
 
 // Held while the key rests; a begin takes it.
-pub struct Resting {
-    // whether a call has taken it: then it is over, and may go
-    spent: bool,
-}
-
-impl Drop for Resting {
-    fn drop(self)
-        requires { self.spent ≡ true }
-    {
-        let Resting { spent: _ } = self;
-    }
-}
-
-impl Resting {
-    pub(crate) fn issue() -> Resting {
-        Resting { spent: false }
-    }
-
-    pub(crate) fn spend(mut self) {
-        self.spent = true;
-    }
-}
+pub type Resting = Token<false>;
 
 // Held while the key changes; a step is shown it, and a finish takes it.
-pub struct Changing {
-    // whether a call has taken it: then it is over, and may go
-    spent: bool,
-}
+pub type Changing = Token<true>;
 
-impl Drop for Changing {
+impl<const CHANGING: bool> Drop for Token<CHANGING> {
     fn drop(self)
         requires { self.spent ≡ true }
     {
-        let Changing { spent: _ } = self;
+        let Token { spent: _ } = self;
     }
 }
 
-impl Changing {
-    pub(crate) fn issue() -> Changing {
-        Changing { spent: false }
+impl<const CHANGING: bool> Token<CHANGING> {
+    pub(crate) fn issue() -> Self {
+        Token { spent: false }
     }
 
     pub(crate) fn spend(mut self) {
         self.spent = true;
+    }
+
+    // The next permit for this one, or where the call was refused this one again.
+    pub(crate) fn exchanged<const NEXT: bool>(
+        self,
+        reply: Result<(), Refusal>,
+    ) -> Result<Token<NEXT>, (Refusal, Self)>
+        ensures { verdict result ≡ reply }
+    {
+        match reply {
+            Ok(()) => {
+                self.spend();
+                Ok(Token::issue())
+            }
+            Err(e) => Err((e, self)),
+        }
     }
 }
 
@@ -56,4 +59,33 @@ impl Changing {
 pub enum Permit {
     Resting(Resting),
     Changing(Changing),
+}
+
+impl Permit {
+    // The permit of a key at this stage.
+    pub(crate) fn issue(stage: Stage) -> Permit
+        ensures { stage_held result ≡ stage }
+    {
+        match stage {
+            Stage::Resting => Permit::Resting(Resting::issue()),
+            Stage::Changing => Permit::Changing(Changing::issue()),
+        }
+    }
+
+    // The stage of the key that it was claimed for.
+    pub fn stage(&self) -> Stage
+        ensures { result ≡ stage_held self.now }
+    {
+        match self {
+            Permit::Resting(_) => Stage::Resting,
+            Permit::Changing(_) => Stage::Changing,
+        }
+    }
+
+    pub(crate) fn spend(self) {
+        match self {
+            Permit::Resting(p) => p.spend(),
+            Permit::Changing(p) => p.spend(),
+        }
+    }
 }

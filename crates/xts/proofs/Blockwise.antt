@@ -52,12 +52,12 @@ module _ (f g : List ℕ → List ℕ) (law : UndoneBy f g) (back : Bool) where
   stolen_head : (o p : ℕ) (zs : List ℕ) → 16 ≤ length zs → length zs < 32 → AllBytes zs → take 16 (stolen f o p zs) ≡ under f p (drop 16 zs ++ drop (length zs - 16) (under f o (take 16 zs)))
   stolen_head o p zs lo hi a =
       let q = under_block f g law o (take 16 zs) (front f g law zs lo a) in
-      take_at _ (take (length zs - 16) (under f o (take 16 zs))) 16 (under_block f g law p _ (filled_block zs (under f o (take 16 zs)) 16 lo (omega arith) a q)).0
+      take_at _ (take (length zs - 16) (under f o (take 16 zs))) 16 (under_block f g law p _ (filled_block zs (under f o (take 16 zs)) lo hi a q)).0
 
   stolen_tail : (o p : ℕ) (zs : List ℕ) → 16 ≤ length zs → length zs < 32 → AllBytes zs → drop 16 (stolen f o p zs) ≡ take (length zs - 16) (under f o (take 16 zs))
   stolen_tail o p zs lo hi a =
       let q = under_block f g law o (take 16 zs) (front f g law zs lo a) in
-      drop_at _ (take (length zs - 16) (under f o (take 16 zs))) 16 (under_block f g law p _ (filled_block zs (under f o (take 16 zs)) 16 lo (omega arith) a q)).0
+      drop_at _ (take (length zs - 16) (under f o (take 16 zs))) 16 (under_block f g law p _ (filled_block zs (under f o (take 16 zs)) lo hi a q)).0
 
   module _ (t m b one other : ℕ) (xs : List ℕ) (some : 1 ≤ m) (long : m * 16 + b ≡ length xs) (less : b < 16) (a : AllBytes xs)
       (ends : (zs : List ℕ) → ending f back (tweak t (m - 1)) zs ≡ stolen f (tweak t one) (tweak t other) zs) where

@@ -39,7 +39,7 @@ module _ (f g : List ℕ → List ℕ) (law : UndoneBy f g) where
       let b : ℕ = length xs - 16 in
       let hq = under_block one (take 16 xs) (front xs lo a) in
       let q = under f one (take 16 xs) in
-      let c = under_block other _ (filled_block xs q 16 lo (omega arith) a hq) in
+      let c = under_block other _ (filled_block xs q lo hi a hq) in
       let whole : 16 + b ≡ length xs = omega arith in
       subst (λ (n : ℕ). Bytes n (stolen f one other xs)) whole (append_bytes 16 b _ (take b q) c (part_bytes 0 b 16 q (omega arith) hq))
 
@@ -49,7 +49,7 @@ module _ (f g : List ℕ → List ℕ) (law : UndoneBy f g) where
       let q : List ℕ = under f one (take 16 xs) in
       let hq = under_block one (take 16 xs) (front xs lo a) in
       let p : List ℕ = drop 16 xs ++ drop b q in
-      let hp = filled_block xs q 16 lo (omega arith) a hq in
+      let hp = filled_block xs q lo hi a hq in
       let c : List ℕ = under f other p in
       let lc = (under_block other p hp).0 in
       let lq = hq.0 in

@@ -1,8 +1,13 @@
 -- What the public calls answer.
-use Rattle.std.specs.Prelude.{◌≡◌, ℕ, ◌≤◌, ◌≢◌, List, [], ◌∷◌, length, take, drop, Ok, Err, Result}
+use Rattle.std.specs.Prelude.{◌≡◌, ℕ, ◌≤◌, ◌≢◌, List, [], ◌∷◌, ◌++◌, length, take, drop, Ok, Err, Result}
 use Rattle.refusal.specs.declared.Refusal.{Refusal}
 use Rattle.refusal.specs.Numbers.{numbered}
 use Rattle.refusal.specs.Demands.{Demand, AllMet, FirstUnmet}
+use Rattle.xts.specs.declared.UnitKey.{UnitKey}
+
+-- the 64 bytes that a prepared key was made from, where a half was made from the bytes `half`
+abbrev pub key_bytes : {C : Type 0} → (C → List ℕ) → UnitKey C → List ℕ
+key_bytes half k = half k.key1 ++ half k.key2
 
 -- a key of the right length, house rule: whose halves differ
 abbrev pub key_demands : List ℕ → List Demand
@@ -26,8 +31,3 @@ Makes demands made before (Err e) after = FirstUnmet demands (numbered e) × (af
 abbrev pub Taken : {K : Type 0} → List ℕ → (K → List ℕ) → Result K Refusal → Type 0
 Taken key bytes_of (Ok k) = AllMet (key_demands key) × (bytes_of k ≡ key)
 Taken key bytes_of (Err e) = FirstUnmet (key_demands key) (numbered e)
-
--- a call's key, input and output that pass the tests: the key is taken and the input copied
-abbrev pub Copied : {K : Type 0} → List ℕ → (K → List ℕ) → List ℕ → List ℕ → Result K Refusal → List ℕ → Type 0
-Copied key bytes_of input before (Ok k) after = AllMet (call_demands key input before) × (bytes_of k ≡ key) × (after ≡ input)
-Copied key bytes_of input before (Err e) after = FirstUnmet (call_demands key input before) (numbered e) × (after ≡ before)

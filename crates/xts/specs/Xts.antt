@@ -46,6 +46,11 @@ encipher forward key n unit = walked (forward (take 32 key)) false (first_tweak 
 unfoldable pub decipher : Maps → Maps → List ℕ → ℕ → List ℕ → List ℕ
 decipher forward back key n unit = walked (back (take 32 key)) true (first_tweak forward key n) (before_last unit) unit
 
+-- A unit through either of the two: enciphered, or where back deciphered.
+abbrev pub passed : Bool → Maps → Maps → List ℕ → ℕ → List ℕ → List ℕ
+passed false forward back = encipher forward
+passed true forward back = decipher forward back
+
 -- The check of a key, by which a volume knows it: sixteen zero bytes as unit 2^64 − 1.
 unfoldable pub check : Maps → List ℕ → List ℕ
 check forward key = encipher forward key (2 ^ 64 - 1) (replicate 16 0)

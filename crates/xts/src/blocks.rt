@@ -1,7 +1,7 @@
 // A unit taken through a cipher block by block, tweak by tweak, in place.
-ghost use Rattle.std.specs.Prelude.{◌≡◌, ℕ, ◌+◌, ◌-◌, ◌*◌, ◌/◌, ◌<◌, ◌≤◌, Bool, List, ◌++◌, length, take, drop, if◌then◌else◌};
-ghost use Rattle.octets.specs.Little.{le_bytes, le_number};
-ghost use Rattle.xts.specs.Xts.{doubled as doubledOf, under as underOf, stolen, walked, before_last};
+ghost use Rattle.std.specs.Prelude.{◌≡◌, ℕ, ◌<◌, ◌≤◌, Bool, true, false, refl, List, ◌++◌, length, take, drop, if◌then◌else◌};
+ghost use Rattle.octets.specs.Little.{le_bytes};
+ghost use Rattle.xts.specs.Xts.{doubled as doubledOf, under, stolen, walked, before_last};
 
 use cipher::Cipher;
 
@@ -12,100 +12,100 @@ fn doubled(t: u128) -> u128
     (t << 1) ^ ((t >> 127) * 0x87)
 }
 
-// The block that begins at `at`, as a number.
-fn block_at(unit: &[u8], at: usize) -> u128
-    requires { at + 16 ≤ length unit.now }
-    ensures { le_bytes 16 result ≡ take 16 (drop at unit.now) }
-{
-    let mut block = [0u8; 16];
-    block.copy_from_slice(&unit[at..at + 16]);
-    octets::block_number(&block)
+// A way through a cipher: its map of blocks, or the map back.
+pub(crate) trait Way<C: Cipher> {
+    // Whether it is the way back, which takes the two tweaks of a stolen end in the other order.
+    const BACK: bool;
+
+    ghost BACK: { Bool };
+
+    ghost map: { C → List ℕ → List ℕ };
+
+    fn map(cipher: &C, block: u128) -> u128
+        ensures { le_bytes 16 result ≡ map cipher.now (le_bytes 16 block) };
+
+    // The block that begins a unit, under tweak t.
+    final fn change_first(cipher: &C, t: u128, unit: &mut [u8])
+        requires { 16 ≤ length unit.old }
+        ensures { unit.new ≡ under (map cipher.now) t (take 16 unit.old) ++ drop 16 unit.old }
+    {
+        if let Some(block) = unit.first_chunk_mut::<16>() {
+            *block = octets::block_bytes(Self::map(cipher, octets::block_number(block) ^ t) ^ t);
+        }
+    }
+
+    // The last whole block and the tail after it: the block goes under the tweak `one`, its first bytes change places
+    // with the tail, and it goes under `other`.
+    final fn steal(cipher: &C, one: u128, other: u128, end: &mut [u8])
+        requires { (16 ≤ length end.old) × (length end.old < 32) }
+        ensures { end.new ≡ stolen (map cipher.now) one other end.old }
+    {
+        Self::change_first(cipher, one, end);
+        let (block, tail) = end.split_at_mut(16);
+        block[..tail.len()].swap_with_slice(tail);
+        Self::change_first(cipher, other, end);
+    }
+
+    // The last whole block, and a tail if there is one, from tweak t on.
+    final fn finish(cipher: &C, t: u128, end: &mut [u8])
+        requires { (16 ≤ length end.old) × (length end.old < 32) }
+        ensures { end.new ≡ walked (map cipher.now) BACK t 0 end.old }
+    {
+        if end.len() == 16 {
+            Self::change_first(cipher, t, end);
+        } else if Self::BACK {
+            Self::steal(cipher, doubled(t), t, end);
+        } else {
+            Self::steal(cipher, t, doubled(t), end);
+        }
+    }
+
+    // A whole unit, from tweak `first` on.
+    final fn walk(cipher: &C, first: u128, unit: &mut [u8])
+        requires { 16 ≤ length unit.old }
+        ensures { unit.new ≡ walked (map cipher.now) BACK first (before_last unit.old) unit.old }
+    {
+        let mut t = first;
+        let before_last = unit.len() / 16 - 1;
+        // By index: a loop over `chunks_exact_mut` was tried, and std does not say what the slice holds after it.
+        for j in 0..before_last {
+            Self::change_first(cipher, t, &mut unit[16 * j..]);
+            t = doubled(t);
+        }
+        Self::finish(cipher, t, &mut unit[16 * before_last..]);
+    }
+
+    ghost either: { (c : C) → map c ≡ (if BACK then C.Cipher.back else C.Cipher.forward) (C.Cipher.key c) };
 }
 
-// Replaces the block that begins at `at`.
-fn put(unit: &mut [u8], at: usize, block: u128)
-    requires { at + 16 ≤ length unit.old }
-    ensures { unit.new ≡ take at unit.old ++ (le_bytes 16 block ++ drop (at + 16) unit.old) }
-{
-    unit[at..at + 16].copy_from_slice(&octets::block_bytes(block));
-}
+pub(crate) struct Forward;
 
-// The cipher's map of a block, or where BACK the map back.
-fn mapped<C: Cipher, const BACK: bool>(c: &C, block: u128) -> u128
-    ensures { le_bytes 16 result ≡ (if BACK then C.Cipher.back else C.Cipher.forward) (C.Cipher.key c.now) (le_bytes 16 block) }
-{
-    if BACK {
-        c.decipher_number(block)
-    } else {
-        c.encipher_number(block)
+impl<C: Cipher> Way<C> for Forward {
+    const BACK: bool = false;
+
+    ghost BACK = { false };
+
+    ghost map = { λ c. C.Cipher.forward (C.Cipher.key c) };
+
+    ghost either = { λ c. refl };
+
+    fn map(cipher: &C, block: u128) -> u128 {
+        cipher.encipher_number(block)
     }
 }
 
-// A block under a tweak.
-fn under<C: Cipher, const BACK: bool>(c: &C, t: u128, block: u128) -> u128
-    ensures { le_bytes 16 result ≡ underOf ((if BACK then C.Cipher.back else C.Cipher.forward) (C.Cipher.key c.now)) t (le_bytes 16 block) }
-{
-    mapped::<C, BACK>(c, block ^ t) ^ t
-}
+pub(crate) struct Back;
 
-// The tail of a unit from `at` on, filled up to a block with the last bytes of another.
-fn filled(unit: &[u8], at: usize, block: u128) -> u128
-    requires { (at ≤ length unit.now) × (length unit.now ≤ at + 16) }
-    ensures { le_bytes 16 result ≡ drop at unit.now ++ drop (length unit.now - at) (le_bytes 16 block) }
-{
-    let rest = unit.len() - at;
-    let mut filled = octets::block_bytes(block);
-    filled[0..rest].copy_from_slice(&unit[at..at + rest]);
-    octets::block_number(&filled)
-}
+impl<C: Cipher> Way<C> for Back {
+    const BACK: bool = true;
 
-// Puts the first bytes of a block in place of the tail from `at` on.
-fn put_tail(unit: &mut [u8], at: usize, block: u128)
-    requires { (at ≤ length unit.old) × (length unit.old ≤ at + 16) }
-    ensures { unit.new ≡ take at unit.old ++ take (length unit.old - at) (le_bytes 16 block) }
-{
-    let rest = unit.len() - at;
-    let source = octets::block_bytes(block);
-    unit[at..at + rest].copy_from_slice(&source[0..rest]);
-}
+    ghost BACK = { true };
 
-// The last whole block, which begins at `at`, and the tail after it: under the tweak `one` first, then under `other`.
-fn steal<C: Cipher, const BACK: bool>(c: &C, one: u128, other: u128, unit: &mut [u8], at: usize)
-    requires { (at + 16 ≤ length unit.old) × (length unit.old < at + 32) }
-    ensures { unit.new ≡ take at unit.old ++ stolen ((if BACK then C.Cipher.back else C.Cipher.forward) (C.Cipher.key c.now)) one other (drop at unit.old) }
-{
-    let q = under::<C, BACK>(c, one, block_at(unit, at));
-    let p = filled(unit, at + 16, q);
-    put_tail(unit, at + 16, q);
-    put(unit, at, under::<C, BACK>(c, other, p));
-}
+    ghost map = { λ c. C.Cipher.back (C.Cipher.key c) };
 
-// The last whole block, which begins at `at`, and a tail if there is one, from tweak t on.
-fn finish<C: Cipher, const BACK: bool>(c: &C, t: u128, unit: &mut [u8], at: usize)
-    requires { (at + 16 ≤ length unit.old) × (length unit.old < at + 32) }
-    ensures { unit.new ≡ take at unit.old ++ walked ((if BACK then C.Cipher.back else C.Cipher.forward) (C.Cipher.key c.now)) BACK t 0 (drop at unit.old) }
-{
-    if unit.len() == at + 16 {
-        let last = under::<C, BACK>(c, t, block_at(unit, at));
-        put(unit, at, last);
-    } else if BACK {
-        steal::<C, BACK>(c, doubled(t), t, unit, at);
-    } else {
-        steal::<C, BACK>(c, t, doubled(t), unit, at);
+    ghost either = { λ c. refl };
+
+    fn map(cipher: &C, block: u128) -> u128 {
+        cipher.decipher_number(block)
     }
-}
-
-// Takes a whole unit through the cipher, or where BACK through its map back, from tweak `first` on.
-pub(crate) fn walk<C: Cipher, const BACK: bool>(c: &C, first: u128, unit: &mut [u8])
-    requires { 16 ≤ length unit.old }
-    ensures { unit.new ≡ walked ((if BACK then C.Cipher.back else C.Cipher.forward) (C.Cipher.key c.now)) BACK first (before_last unit.old) unit.old }
-{
-    let mut t = first;
-    let before_last = unit.len() / 16 - 1;
-    for j in 0..before_last {
-        let block = under::<C, BACK>(c, t, block_at(unit, 16 * j));
-        put(unit, 16 * j, block);
-        t = doubled(t);
-    }
-    finish::<C, BACK>(c, t, unit, 16 * before_last);
 }

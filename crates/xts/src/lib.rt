@@ -1,22 +1,27 @@
 // XTS over any cipher: units of 16 to 4,096 bytes under a key of 64 bytes, and the check of a key.
 #![tactic(auto)]
 
-ghost use Rattle.std.specs.Prelude.{◌≡◌, ℕ, ◌≤◌, List, ◌++◌, length, take, drop};
+ghost use Rattle.std.specs.Prelude.{◌≡◌, ◌↔◌, ◌≤◌, true, length};
 ghost use Rattle.octets.specs.Little.{le_bytes, le_number};
-ghost use Rattle.xts.specs.Xts.{encipher as encipherOf, decipher as decipherOf, check as checkOf};
-ghost use Rattle.xts.specs.Calls.{unit_demands, call_demands, Makes, Taken, Copied};
+ghost use Rattle.xts.specs.Xts.{encipher as encipherOf, decipher as decipherOf, passed, check as checkOf};
+ghost use Rattle.xts.specs.Calls.{key_bytes, unit_demands, call_demands, Makes, Taken};
 ghost use Rattle.xts.specs.Theorems.{EachUndoesTheOther, EnciphersBlockByBlock, DeciphersBlockByBlock};
 
+use blocks::{Back, Forward, Way};
 use cipher::Cipher;
 use refusal::Refusal;
 
 mod blocks;
 
-// Both halves of a key.
-const KEY_LENGTH: usize = 64;
-
 // A unit has 16 bytes to as many.
 const LONGEST_UNIT: usize = 4096;
+
+// Whether the bytes are as many as a unit has.
+fn is_unit(bytes: &[u8]) -> bool
+    ensures { result ≡ true ↔ (16 ≤ length bytes.now) × (length bytes.now ≤ 4096) }
+{
+    (16..=LONGEST_UNIT).contains(&bytes.len())
+}
 
 // A key made ready: its two halves expanded once. As in IEEE 1619, key1 enciphers blocks and key2 the tweak.
 #[derive(Drop)]
@@ -25,32 +30,20 @@ pub struct UnitKey<C> {
     key2: C,
 }
 
-// Half a key.
-fn half(key: &[u8], at: usize) -> [u8; 32]
-    requires { (length key.now ≡ 64) × (at ≤ 32) }
-    ensures { result ≡ take 32 (drop at key.now) }
-{
-    let mut half = [0u8; 32];
-    half.copy_from_slice(&key[at..at + 32]);
-    half
-}
-
 impl<C: Cipher> UnitKey<C> {
     // Refuses a key that is not 64 bytes long, then one whose halves are equal.
     pub fn new(key: &[u8]) -> Result<UnitKey<C>, Refusal>
-        ensures { Taken key.now (λ k. C.Cipher.key k.key1 ++ C.Cipher.key k.key2) result }
+        ensures { Taken key.now (key_bytes C.Cipher.key) result }
     {
-        if key.len() != KEY_LENGTH {
+        let ([first, second], []) = key.as_chunks::<32>() else {
             return Err(Refusal::WrongLength);
-        }
-        let first = half(key, 0);
-        let second = half(key, 32);
+        };
         if first == second {
             return Err(Refusal::UnfitKey);
         }
         Ok(UnitKey {
-            key1: C::new(&first),
-            key2: C::new(&second),
+            key1: C::new(first),
+            key2: C::new(second),
         })
     }
 
@@ -61,80 +54,79 @@ impl<C: Cipher> UnitKey<C> {
         self.key2.encipher_number(number as u128)
     }
 
-    fn seal_unit(&self, number: u64, unit: &mut [u8])
+    // Enciphers a unit in place, or where W is the way back deciphers it.
+    fn pass<W: Way<C>>(&self, number: u64, unit: &mut [u8])
         requires { 16 ≤ length unit.old }
-        ensures { unit.new ≡ encipherOf C.Cipher.forward (C.Cipher.key self.now.key1 ++ C.Cipher.key self.now.key2) number unit.old }
+        ensures { unit.new ≡ passed W.BACK C.Cipher.forward C.Cipher.back (key_bytes C.Cipher.key self.now) number unit.old }
     {
-        blocks::walk::<C, false>(&self.key1, self.first_tweak(number), unit);
+        W::walk(&self.key1, self.first_tweak(number), unit);
     }
 
-    fn open_unit(&self, number: u64, unit: &mut [u8])
-        requires { 16 ≤ length unit.old }
-        ensures { unit.new ≡ decipherOf C.Cipher.forward C.Cipher.back (C.Cipher.key self.now.key1 ++ C.Cipher.key self.now.key2) number unit.old }
+    // The same, for a unit that may have a wrong length.
+    fn try_pass<W: Way<C>>(&self, number: u64, unit: &mut [u8]) -> Result<(), Refusal>
+        ensures { Makes (unit_demands unit.old) (passed W.BACK C.Cipher.forward C.Cipher.back (key_bytes C.Cipher.key self.now) number unit.old) unit.old result unit.new }
     {
-        blocks::walk::<C, true>(&self.key1, self.first_tweak(number), unit);
+        if !is_unit(unit) {
+            return Err(Refusal::WrongLength);
+        }
+        self.pass::<W>(number, unit);
+        Ok(())
     }
 
     // Enciphers a unit in place; refuses one that is not 16 to 4,096 bytes long.
     pub fn seal(&self, number: u64, unit: &mut [u8]) -> Result<(), Refusal>
-        ensures { Makes (unit_demands unit.old) (encipherOf C.Cipher.forward (C.Cipher.key self.now.key1 ++ C.Cipher.key self.now.key2) number unit.old) unit.old result unit.new }
+        ensures { Makes (unit_demands unit.old) (encipherOf C.Cipher.forward (key_bytes C.Cipher.key self.now) number unit.old) unit.old result unit.new }
     {
-        if unit.len() < 16 || unit.len() > LONGEST_UNIT {
-            return Err(Refusal::WrongLength);
-        }
-        self.seal_unit(number, unit);
-        Ok(())
+        self.try_pass::<Forward>(number, unit)
     }
 
     // Deciphers a unit in place; refuses one that is not 16 to 4,096 bytes long.
     pub fn open(&self, number: u64, unit: &mut [u8]) -> Result<(), Refusal>
-        ensures { Makes (unit_demands unit.old) (decipherOf C.Cipher.forward C.Cipher.back (C.Cipher.key self.now.key1 ++ C.Cipher.key self.now.key2) number unit.old) unit.old result unit.new }
+        ensures { Makes (unit_demands unit.old) (decipherOf C.Cipher.forward C.Cipher.back (key_bytes C.Cipher.key self.now) number unit.old) unit.old result unit.new }
     {
-        if unit.len() < 16 || unit.len() > LONGEST_UNIT {
-            return Err(Refusal::WrongLength);
-        }
-        self.open_unit(number, unit);
-        Ok(())
+        self.try_pass::<Back>(number, unit)
     }
 
     // Enciphers a sector in place.
     pub fn seal_sector(&self, number: u64, sector: &mut [u8; 520])
-        ensures { sector.new ≡ encipherOf C.Cipher.forward (C.Cipher.key self.now.key1 ++ C.Cipher.key self.now.key2) number sector.old }
+        ensures { sector.new ≡ encipherOf C.Cipher.forward (key_bytes C.Cipher.key self.now) number sector.old }
     {
-        self.seal_unit(number, sector);
+        self.pass::<Forward>(number, sector);
     }
 
     // Deciphers a sector in place.
     pub fn open_sector(&self, number: u64, sector: &mut [u8; 520])
-        ensures { sector.new ≡ decipherOf C.Cipher.forward C.Cipher.back (C.Cipher.key self.now.key1 ++ C.Cipher.key self.now.key2) number sector.old }
+        ensures { sector.new ≡ decipherOf C.Cipher.forward C.Cipher.back (key_bytes C.Cipher.key self.now) number sector.old }
     {
-        self.open_unit(number, sector);
+        self.pass::<Back>(number, sector);
     }
 
     // The check of the key, by which a volume knows it again.
     pub fn check(&self) -> [u8; 16]
-        ensures { result ≡ checkOf C.Cipher.forward (C.Cipher.key self.now.key1 ++ C.Cipher.key self.now.key2) }
+        ensures { result ≡ checkOf C.Cipher.forward (key_bytes C.Cipher.key self.now) }
     {
         let mut zeros = [0u8; 16];
-        self.seal_unit(u64::MAX, &mut zeros);
+        self.pass::<Forward>(u64::MAX, &mut zeros);
         zeros
     }
 }
 
-// What both calls below begin with: the tests, lengths first; then the input goes into the output, to be changed there.
-fn copied<C: Cipher + Drop>(
+// Enciphers the unit `input` into `output`, or where W is the way back deciphers it. All tests of lengths come first.
+fn pass_into<C: Cipher + Drop, W: Way<C>>(
     key: &[u8],
+    number: u64,
     input: &[u8],
     output: &mut [u8],
-) -> Result<UnitKey<C>, Refusal>
-    ensures { Copied key.now (λ k. C.Cipher.key k.key1 ++ C.Cipher.key k.key2) input.now output.old result output.new }
+) -> Result<(), Refusal>
+    ensures { Makes (call_demands key.now input.now output.old) (passed W.BACK C.Cipher.forward C.Cipher.back key.now number input.now) output.old result output.new }
 {
-    if input.len() < 16 || input.len() > LONGEST_UNIT || output.len() != input.len() {
+    if !is_unit(input) || output.len() != input.len() {
         return Err(Refusal::WrongLength);
     }
     let key = UnitKey::<C>::new(key)?;
     output.copy_from_slice(input);
-    Ok(key)
+    key.pass::<W>(number, output);
+    Ok(())
 }
 
 // Enciphers the unit `input` into `output`. Refuses lengths first: a key not of 64 bytes, an input not of 16 to 4,096,
@@ -147,9 +139,7 @@ pub fn encipher<C: Cipher + Drop>(
 ) -> Result<(), Refusal>
     ensures { Makes (call_demands key.now input.now output.old) (encipherOf C.Cipher.forward key.now number input.now) output.old result output.new }
 {
-    let key = copied::<C>(key, input, output)?;
-    key.seal_unit(number, output);
-    Ok(())
+    pass_into::<C, Forward>(key, number, input, output)
 }
 
 // Deciphers the unit `input` into `output`, and refuses as `encipher` does.
@@ -161,9 +151,7 @@ pub fn decipher<C: Cipher + Drop>(
 ) -> Result<(), Refusal>
     ensures { Makes (call_demands key.now input.now output.old) (decipherOf C.Cipher.forward C.Cipher.back key.now number input.now) output.old result output.new }
 {
-    let key = copied::<C>(key, input, output)?;
-    key.open_unit(number, output);
-    Ok(())
+    pass_into::<C, Back>(key, number, input, output)
 }
 
 // The theorem that deciphering undoes enciphering and enciphering deciphering, for every cipher, key, number and length.

@@ -1,7 +1,13 @@
-use Rattle.std.proofs.Common.{◌≡◌, ℕ, ◌-◌, ◌<◌, ◌≤◌, length, take, sym, ◌∙◌, subst, arith, length-set, take_all}
+use Rattle.std.proofs.Common.{◌≡◌, ℕ, ◌-◌, ◌<◌, ◌≤◌, length, take, refl, sym, ◌∙◌, subst, arith, length-set, take_all}
 use Rattle.aes.specs.Aes.{expanded}
 use Rattle.aes.specs.Parts.{expand_next}
 use Rattle.aes.proofs.expand.Goals as goal
+
+pub loop-n-init : goal.loop-n-init
+unfolding expanded
+loop-n-init c =
+    let first : c.copy_from_slice.new.self ≡ expanded c.args.bytes.now 0 = c.copy_from_slice.ensures.after ∙ c.key_words.ensures in
+    rw first (refl, refl)
 
 pub loop-n-preserved : goal.loop-n-preserved
 loop-n-preserved c =

@@ -1,10 +1,18 @@
-use Rattle.std.proofs.Common.{ap, ◌∙◌}
-use Rattle.aes_tables.specs.Field.{sub}
+use Rattle.std.proofs.Common.{◌≡◌, ◌<◌, ℕ, get_or, ap, ◌∙◌, rules, arith}
+use Rattle.aes_tables.specs.Columns.{gathered}
 use Rattle.aes_tables.proofs.Places.{gathered_is}
 use Rattle.aes_tables.proofs.gathered_word.Goals as goal
 
 pub returns : goal.returns
-returns c =
-    gathered_is sub c.from_le_bytes.result c.substituted.result c.substituted-2.result c.substituted-3.result c.substituted-4.result c.args.a c.args.b c.args.c c.args.d
-    c.from_le_bytes.ensures (c.substituted.ensures ∙ ap sub c.byte0.ensures) (c.substituted-2.ensures ∙ ap sub c.byte1.ensures)
-    (c.substituted-3.ensures ∙ ap sub c.byte2.ensures) (c.substituted-4.ensures ∙ ap sub c.byte3.ensures)
+returns g c =
+    let f = g.W.Way.substitution in
+    let a = c.args in
+    let e = c.diagonal.ensures in
+    let s = c.map.result in
+    let called = c.map.ensures.items.at in
+    let each : (i : ℕ) → i < 4 → get_or s i 0 ≡ f (get_or (gathered (λ x. x) a.a a.b a.c a.d) i 0) = λ i h.
+    let k = called i 0 0 h in
+    let met : get_or s i 0 ≡ f (get_or c.diagonal.result i 0) = search rules in
+    met ∙ ap (λ t. f (get_or t i 0)) e in
+    gathered_is f c.from_le_bytes.result (get_or s 0 0) (get_or s 1 0) (get_or s 2 0) (get_or s 3 0) a.a a.b a.c a.d c.from_le_bytes.ensures
+    (search rules) (search rules) (search rules) (search rules) (each 0 (omega arith)) (each 1 (omega arith)) (each 2 (omega arith)) (each 3 (omega arith))

@@ -1,7 +1,7 @@
-use Rattle.aes_tables.specs.Field.{sub}
-use Rattle.aes_tables.proofs.Inverses.{sub_lt}
-use Rattle.aes_tables.proofs.Places.{last_is}
+use Rattle.std.proofs.Common.{List, ℕ, ap, ◌∙◌}
+use Rattle.octets.specs.Little.{le_bytes, xored}
+use Rattle.octets.proofs.Numbers.{bytes_xor}
 use Rattle.aes_tables.proofs.last_column.Goals as goal
 
 pub returns : goal.returns
-returns c = last_is sub sub_lt c.gathered_word.result c.args.a c.args.b c.args.c c.args.d c.args.k c.gathered_word.ensures
+returns g c = bytes_xor 4 c.gathered_word.result c.args.k ∙ ap (λ (s : List ℕ). xored s (le_bytes 4 c.args.k)) c.gathered_word.ensures

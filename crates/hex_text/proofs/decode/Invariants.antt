@@ -1,9 +1,7 @@
--- The bytes so far and what is still to decode make all the bytes, and each character passed is a digit.
-use Rattle.std.proofs.Common.{◌≡◌, ℕ, ◌*◌, ◌<◌, ◌++◌, get_or, drop, vec_items}
-use Rattle.hex_text.specs.Texts.{hex_bytes, HexDigit}
+use Rattle.std.proofs.Common.{◌≡◌, vec_items}
+use Rattle.std.specs.Slice.Iter.{chunks_exact_rest, chunks_exact_size}
+use Rattle.hex_text.proofs.Pairs.{Goes}
 use Rattle.hex_text.proofs.decode.Given as goal
 
-abbrev pub invariant-loop-i : goal.invariant-loop-i
-invariant-loop-i l =
-    (hex_bytes l.digits ≡ vec_items l.bytes ++ hex_bytes (drop (2 * l.i) l.digits))
-    × ((k : ℕ) → k < 2 * l.i → HexDigit (get_or l.digits k 0))
+abbrev pub invariant-loop-digits : goal.invariant-loop-digits
+invariant-loop-digits l = (chunks_exact_size l.digits-iterator ≡ 2) × Goes l.text (chunks_exact_rest l.digits-iterator) (vec_items l.bytes)

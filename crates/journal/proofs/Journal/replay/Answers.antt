@@ -1,34 +1,20 @@
 use Rattle.std.proofs.Common.{arith}
-use Rattle.journal.proofs.Settles.{up_as, fits, unseen_one, unseen_first, unseen_second, up_after, copied_one, copied_two}
+use Rattle.journal.proofs.Settles.{unseen_target, as_two, unseen_second, first_copied, replayed_one, replayed_two}
 use Rattle.journal.proofs.Journal.replay.Goals as goal
 
-pub copy_unseen-requires : goal.copy_unseen-requires
-copy_unseen-requires g c =
-    let u = up_as _ _ _ _ c.requires c.in-One.is in
-    record { source = omega (arith, u.total, u.room); still = unseen_one _ _ _ u }
+pub copy_unseen-requires-clause-still : goal.copy_unseen-requires-clause-still
+copy_unseen-requires-clause-still g c = unseen_target _ _ _ c.requires
 
-pub lower-requires-in-One : goal.lower-requires-in-One
-lower-requires-in-One g c =
-    let u = up_as _ _ _ _ c.requires c.in-One.is in
-    let w = c.in_ok-copy_unseen-in-One.ensures in
-    record { up = up_after _ _ _ _ _ _ u (fits _ _ _ u) w.1; copied = copied_one _ _ _ _ u w.1 }
+pub copy_unseen-requires-in-Some-clause-still : goal.copy_unseen-requires-in-Some-clause-still
+copy_unseen-requires-in-Some-clause-still g c =
+    unseen_second _ _ _ _ (as_two _ _ _ _ (first_copied _ _ _ _ _ c.requires c.first_spare.ensures c.in_ok-copy_unseen.ensures.1) c.in-Some.is)
 
-pub copy_unseen-requires-in-Two : goal.copy_unseen-requires-in-Two
-copy_unseen-requires-in-Two g c =
-    let u = up_as _ _ _ _ c.requires c.in-Two.is in
-    record { source = omega (arith, u.total, u.room); still = unseen_first _ _ _ _ u }
+pub returns-in-None : goal.returns-in-None
+returns-in-None g c =
+    let w = c.in_ok-copy_unseen.ensures in
+    (w.0, replayed_one _ _ _ _ _ c.requires c.in-None.is c.first_spare.ensures w.1, w.2)
 
-pub copy_unseen-requires-in-Two-2 : goal.copy_unseen-requires-in-Two-2
-copy_unseen-requires-in-Two-2 g c =
-    let u = up_as _ _ _ _ c.requires c.in-Two.is in
-    let w = c.in_ok-copy_unseen-in-Two.ensures in
-    let v = up_after _ _ _ _ _ _ u (fits _ _ _ u).0 w.1 in
-    record { source = omega (arith, v.total, v.room); still = unseen_second _ _ _ _ v }
-
-pub lower-requires-in-Two : goal.lower-requires-in-Two
-lower-requires-in-Two g c =
-    let u = up_as _ _ _ _ c.requires c.in-Two.is in
-    let w = c.in_ok-copy_unseen-in-Two.ensures in
-    let v = up_after _ _ _ _ _ _ u (fits _ _ _ u).0 w.1 in
-    let x = c.in_ok-copy_unseen-in-Two-2.ensures in
-    record { up = up_after _ _ _ _ _ _ v (fits _ _ _ v).1 x.1; copied = copied_two _ _ _ _ _ _ u v w.1 x.1 }
+pub returns-in-Some : goal.returns-in-Some
+returns-in-Some g c =
+    let w = c.in_ok-copy_unseen.ensures in
+    replayed_two _ _ _ _ _ _ _ _ c.copy_unseen-in-Some.result c.requires c.in-Some.is (omega arith) (omega arith) w.0 w.1 w.2 c.copy_unseen-in-Some.ensures

@@ -1,22 +1,18 @@
-use Rattle.std.proofs.Common.{◌≡◌, ℕ, ◌-◌, ◌<◌, ap, ◌∙◌, arith}
-use Rattle.speck.specs.Speck.{pair, round_back, rounds_back, round_key, block_of, speck_back}
-use Rattle.speck.specs.Rounds.{turn_back}
+use Rattle.std.proofs.Common.{ap, ◌∙◌, rules}
+use Rattle.speck.specs.Speck.{round_key, block_of, speck_back}
+use Rattle.speck.proofs.Turns.{all_left, one_back, none_left}
 use Rattle.speck.proofs.SpeckCipher.decipher_number.Goals as goal
 
-pub loop-i-init : goal.loop-i-init
-loop-i-init c = ap (rounds_back (round_key c.args.self.now.bytes) 34) c.of_block-words.ensures
-
-pub loop-i-preserved : goal.loop-i-preserved
-loop-i-preserved c =
+pub loop-k-init : goal.loop-k-init
+loop-k-init c =
     let s = c.args.self.now in
-    let i = c.loop-i.i in
-    let h : i - 1 < 34 = omega arith in
-    let before = pair c.loop-i.words.x c.loop-i.words.y in
-    turn_back (round_key s.bytes) i before _ c.loop-i-test.true (c.round_back-words.ensures ∙ ap (λ (k : ℕ). round_back k before) (s.scheduled (i - 1) h))
-    ∙ c.loop-i.invariant
+    all_left (round_key s.bytes) 34 s.keys _ c.from-words.result _ (search rules) s.scheduled (search rules) c.from-words.ensures
+
+pub loop-k-preserved : goal.loop-k-preserved
+loop-k-preserved c =
+    one_back (round_key c.args.self.now.bytes) 34 _ _ c.in-Some.k.now c.loop-k.words _ _ c.in-Some.ensures.steps c.round_back-words.ensures c.loop-k.invariant
 
 pub returns : goal.returns
-unfolding speck_back rounds_back
+unfolding speck_back
 returns c =
-    let e : 0 ≡ c.loop-i.i = omega arith in
-    c.block.ensures ∙ ap block_of (ap (λ (n : ℕ). rounds_back (round_key c.args.self.now.bytes) n (pair c.loop-i.words.x c.loop-i.words.y)) e ∙ c.loop-i.invariant)
+    c.from.ensures ∙ ap block_of (none_left (round_key c.args.self.now.bytes) 34 _ c.loop-k.words _ c.in-None.ensures.steps.0 c.loop-k.invariant)

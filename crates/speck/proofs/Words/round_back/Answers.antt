@@ -1,13 +1,12 @@
-use Rattle.std.proofs.Common.{◌≡◌, ℕ, ◌+◌, ◌-◌, ◌%◌, ◌^◌, ◌<◌, refl, ap, ◌∙◌, ap₂, arith, rules}
+use Rattle.std.proofs.Common.{◌≡◌, ℕ, ◌+◌, ◌-◌, ◌%◌, ◌^◌, ◌<◌, refl, ◌∙◌, arith, rules}
 use lib.Bits.{bit_xor, xor_lt}
 use Rattle.speck.specs.Words.{rotr, rotl}
-use Rattle.speck.specs.Speck.{pair}
 use Rattle.speck.specs.Rotate.{shifts, shifts_left}
 use Rattle.speck.proofs.Words.round_back.Goals as goal
 
 pub returns : goal.returns
 returns c =
-    let s = c.args.self in
+    let s = c.self.inside in
     let fx : s.x < 2 ^ 64 = search rules in
     let fy : s.y < 2 ^ 64 = search rules in
     let z : ℕ = bit_xor s.y s.x in
@@ -15,4 +14,4 @@ returns c =
     let w : ℕ = (bit_xor s.x c.args.k + (2 ^ 64 - c.rotate_right-y.result)) % 2 ^ 64 in
     let fw : w < 2 ^ 64 = omega arith in
     let left : c.rotate_left.result ≡ rotl 8 w = c.rotate_left.ensures ∙ shifts_left 8 56 refl w fw in
-    ap₂ pair left refl ∙ ap (λ (y : ℕ). pair (rotl 8 ((bit_xor s.x c.args.k + (2 ^ 64 - y)) % 2 ^ 64)) y) right
+    rw (← c.self.view_is, left, right)

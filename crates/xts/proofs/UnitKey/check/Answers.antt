@@ -3,4 +3,4 @@ use Rattle.xts.proofs.UnitKey.check.Goals as goal
 
 pub returns : goal.returns
 unfolding check
-returns g c = c.seal_unit.ensures
+returns g c = c.pass.ensures

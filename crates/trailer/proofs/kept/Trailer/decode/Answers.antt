@@ -14,8 +14,8 @@ returns-then-reach-lt1 c =
     let r = c.number_at-reach.ensures in
     not_reaching c.args.cipher c.args.last c.args.sector.now (λ some room. omega arith)
 
-pub returns-then-not-staged : goal.returns-then-not-staged
-returns-then-not-staged c = not_staged c.args.cipher c.args.last c.args.sector.now (search rules)
+pub returns-in_err-stage : goal.returns-in_err-stage
+returns-in_err-stage c = rw c.from_residual.ensures (not_staged c.args.cipher c.args.last c.args.sector.now c.in_err-stage.ensures)
 
 pub invariant_of-result : goal.invariant_of-result
 unfolding decode
@@ -24,7 +24,7 @@ invariant_of-result c =
     let whole : Bytes 520 s = (c.told-sector, λ k h. c.fits-sector k) in
     let r = c.number_at-reach.ensures in
     let w = c.number_at.ensures in
-    let ok : valid c.args.cipher c.args.last s ≡ true = valid_from c.args.cipher c.args.last s (sym c.framed.ensures ∙ c.if-not-framed.false) (omega arith) (omega arith) (sym c.staged.ensures ∙ c.if-not-staged.false) in
+    let ok : valid c.args.cipher c.args.last s ≡ true = valid_from c.args.cipher c.args.last s (sym c.framed.ensures ∙ c.if-not-framed.false) (omega arith) (omega arith) c.in_ok-stage.ensures.0 in
     let small = valid_within c.args.cipher c.args.last s whole ok in
     record { within = omega arith }
 
@@ -33,6 +33,6 @@ unfolding decode
 returns c =
     let s = c.args.sector.now in
     let r = c.number_at-reach.ensures in (
-      valid_from c.args.cipher c.args.last s (sym c.framed.ensures ∙ c.if-not-framed.false) (omega arith) (omega arith) (sym c.staged.ensures ∙ c.if-not-staged.false),
-      same_fields _ (decode s) (search rules) (search rules) (search rules) (search rules) (search rules) (search rules),
+      valid_from c.args.cipher c.args.last s (sym c.framed.ensures ∙ c.if-not-framed.false) (omega arith) (omega arith) c.in_ok-stage.ensures.0,
+      same_fields _ (decode s) c.in_ok-stage.ensures.1 (search rules) (search rules) (search rules) (search rules) (search rules),
     )

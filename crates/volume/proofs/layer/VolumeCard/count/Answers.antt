@@ -1,13 +1,11 @@
-use Rattle.showing.proofs.Cards.{count_card}
-use Rattle.law.specs.Suites.{suite}
 use Rattle.volume.specs.States.{state_of}
+use Rattle.volume.proofs.Kept.{cards}
 use Rattle.volume.proofs.layer.VolumeCard.count.Goals as goal
 
 pub returns : goal.returns
 returns g c =
     let k = g.K.LoadedKey in
-    let m = g.S.Card.meaning in
-    let c' = suite k.numbered k.forward k.back in
-    let v = state_of k.bytes m c.args.self.now in
-    let w = state_of k.bytes m c.shown_count.new.self in
-    record { shows = count_card c' v w c.shown_count.result c.shown_count.ensures; does = c.shown_count.ensures }
+    let l = g.met.K.LoadedKey in
+    let m = g.S.Card in
+    let done = c.shown_count.ensures in
+    record { shows = (cards k l.byte l.inverse l.keyed m g.met.S.Card.sound c.args.self.now (state_of k m c.shown_count.new.self)).counts c.shown_count.result done; does = done }

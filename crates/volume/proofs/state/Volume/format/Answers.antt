@@ -1,22 +1,15 @@
 use Rattle.std.proofs.Common.{refl, rules}
-use Rattle.showing.proofs.Trailers.{format_shows}
-use Rattle.law.specs.Suites.{suite}
 use Rattle.volume.specs.States.{state_of}
-use Rattle.law.specs.Suites.{Proper}
-use Rattle.volume.specs.Steadiness.{steady}
+use Rattle.volume.proofs.Kept.{puts}
 use Rattle.volume.proofs.state.Volume.format.Goals as goal
 
 pub returns : goal.returns
 returns g c =
     let k = g.K.LoadedKey in
-    let m = g.S.Card.meaning in
-    let c' = suite k.numbered k.forward k.back in
-    let v = state_of k.bytes m c.args.self.now in
-    let proper : Proper c' = record { number = g.met.K.LoadedKey.byte; inverse = g.met.K.LoadedKey.inverse } in
-    let calm = steady k.bytes g.met.K.LoadedKey.keyed m g.met.S.Card.sound c.args.self.now in
-    let w = state_of k.bytes m c.put_fresh.new.self in
+    let l = g.met.K.LoadedKey in
+    let m = g.S.Card in
     let done = c.put_fresh.ensures in
     record {
       does = done;
-      shows = format_shows c' proper v w calm c.args.reach c.args.label.now (refl, λ i h. search rules) done.0 c.put_fresh.result done.1;
+      shows = (puts k l.byte l.inverse l.keyed m g.met.S.Card.sound c.args.self.now (state_of k m c.put_fresh.new.self)).formats c.args.reach c.args.label.now done.0 c.put_fresh.result (refl, λ i h. search rules) done.1;
     }

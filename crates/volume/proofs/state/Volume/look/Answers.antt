@@ -1,7 +1,7 @@
 use Rattle.std.proofs.Common.{ℕ, ◌-◌, List, sym, refl, ap, ◌∙◌, subst, arith}
 use Rattle.octets.specs.Little.{Bytes}
 use Rattle.card.specs.Meaning.{Meaning, at}
-use Rattle.volume.proofs.Looks.{none_seen, some_seen}
+use Rattle.volume.proofs.Looks.{none_seen, within}
 use Rattle.volume.proofs.state.Volume.look.Goals as goal
 
 pub returns-then-total-eq0 : goal.returns-then-total-eq0
@@ -9,17 +9,11 @@ returns-then-total-eq0 g c =
     let counted = c.in_ok-total.ensures in
     record { store = (counted.0, counted.1, none_seen _ (g.S.Card.meaning c.args.self.now.store) (omega arith)); keys = refl; out = refl }
 
-pub returns-in-Some : goal.returns-in-Some
-returns-in-Some g c =
-    let before = g.S.Card.meaning c.args.self.now.store in
+pub invariant_of-result : goal.invariant_of-result
+invariant_of-result g c =
     let counted = c.in_ok-total.ensures in
-    let got = c.in_ok-read.ensures in
     let said = c.in-Some.ensures in
     let end = c.in_ok-total.total - 1 in
-    let there = got.4 ∙ ap (λ (z : Meaning). at z end) counted.1 in
+    let there = c.in_ok-read.ensures.4 ∙ ap (λ (z : Meaning). at z end) counted.1 in
     let sector = subst (λ (s : List ℕ). Bytes 520 s) (sym there) ((g.met.S.Card.sound c.args.self.now.store).each end (omega arith)) in
-    record {
-      store = (counted.0, got.3 ∙ counted.1, some_seen g.K.LoadedKey.numbered _ end before _ c.in-Some.trailer c.own_number.ensures (omega arith) (omega arith) sector there said.0 said.1);
-      keys = refl;
-      out = refl;
-    }
+    record { room = within c.own_number.result end _ c.in-Some.trailer sector said.0 said.1 }
