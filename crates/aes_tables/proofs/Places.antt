@@ -86,3 +86,7 @@ unmixed_is r s w h es er =
     let same : map sub_back (le_bytes 4 s) ≡ le_bytes 4 w =
     ap (map sub_back) low ∙ map_undone sub sub_back sub_undone (le_bytes 4 w) (all_of 4 (le_bytes 4 w) (le_bytes_bytes 4 w)) in
     sym (number_bytes 4 r h) ∙ ap le_number (er ∙ no_key _ _ _ _ ∙ ap (times mix_back) same)
+
+-- a word of bytes s with a key added
+pub keyed : (x k : ℕ) (s : List ℕ) → le_bytes 4 x ≡ s → le_bytes 4 (bit_xor x k) ≡ xored s (le_bytes 4 k)
+keyed x k s h = bytes_xor 4 x k ∙ ap (λ t. xored t (le_bytes 4 k)) h

@@ -92,6 +92,7 @@ fn gathered_word<W: Way>(a: u32, b: u32, c: u32, d: u32) -> u32
 }
 
 // A column of the last round, which does not mix.
+#[tactic(auto, using(crate::proofs::Places::keyed))]
 pub fn last_column<W: Way>(a: u32, b: u32, c: u32, d: u32, k: u32) -> u32
     ensures { le_bytes 4 result ≡ xored (gathered W.substitution a b c d) (le_bytes 4 k) }
 {

@@ -6,6 +6,7 @@ use Rattle.card.specs.Calls.{Refused, Counted, PoweredUp, ReadAt, WroteAt}
 use Rattle.cut.specs.declared.Script.{Script}
 use Rattle.cut.specs.declared.Loss.{Loss}
 use Rattle.cut.specs.declared.Loss.TheVariants.{Old, New, Junk}
+use Rattle.cut.specs.Losses.{loss_of}
 use Rattle.cut.specs.declared.Cut.{Cut}
 
 -- the sectors of the card below; the power is on where it is on below and the layer has not cut it
@@ -19,7 +20,7 @@ meaning_of meaning c = cut_of c.powered (meaning c.card)
 -- an access is served: the script has one less to serve
 abbrev pub ticked : Option Script → Option Script
 ticked None = None
-ticked (Some s) = cond (s.left == 0) None (Some record { left = s.left - 1; loss = s.loss })
+ticked (Some s) = cond (s.left == 0) None (Some record { left = s.left - 1; kind = s.kind })
 
 -- whether the next access loses power
 abbrev pub firing : Option Script → Bool
@@ -30,7 +31,7 @@ firing (Some s) = s.left == 0
 abbrev pub Stepped : Option Script → Bool → Option Script → Bool → Option Loss → Type 0
 Stepped None p s p' (Some loss) = ⊥
 Stepped None p s p' None = (s ≡ None) × (p' ≡ p)
-Stepped (Some o) p s p' (Some loss) = (o.left ≡ 0) × (loss ≡ o.loss) × (s ≡ None) × (p' ≡ false)
+Stepped (Some o) p s p' (Some loss) = (o.left ≡ 0) × (loss ≡ loss_of o.kind) × (s ≡ None) × (p' ≡ false)
 Stepped (Some o) p s p' None = ((o.left == 0) ≡ false) × (s ≡ ticked (Some o)) × (p' ≡ p)
 
 -- a cut layer: whether it leaves the power on, its script, and what the card below means
@@ -82,7 +83,7 @@ Left Junk m n k b = (r : Result (Unit {0}) Refusal) × WroteAt m n k junk r
 
 abbrev pub Lost : Option Script → Meaning → Meaning → ℕ → List ℕ → Type 0
 Lost None m n k b = ⊥
-Lost (Some s) m n k b = Left s.loss m n k b
+Lost (Some s) m n k b = Left (loss_of s.kind) m n k b
 
 abbrev pub CutWrote : State → State → ℕ → List ℕ → Result (Unit {0}) Refusal → Type 0
 CutWrote s t k b r =

@@ -5,7 +5,7 @@ ghost use Rattle.std.specs.Prelude.{◌≡◌, true, false, Some, None};
 ghost use Rattle.std.specs.Borrow.{sem, follows};
 ghost use Rattle.cut.specs.contracts.Cut.{the_row};
 ghost use Rattle.card.specs.Calls.{Counted, PoweredUp, ReadAt, WroteAt};
-ghost use Rattle.cut.specs.Losses.{loss_of};
+ghost use Rattle.cut.specs.Losses.{loss_of, kind_of};
 ghost use Rattle.cut.specs.Cuts.{meaning_of, state_of, Stepped, Tested, Left, CutRead, CutWrote, CutCounted, CutPoweredUp};
 ghost use Rattle.std.proofs.Common.{rules};
 
@@ -20,7 +20,16 @@ pub enum Loss {
     Junk = 2,
 }
 
-// Every number has its loss: 0 and 1 have the first two, and any other has the last.
+// The kind that a script says a loss by. Of the many that say junk, it is 2.
+impl From<Loss> for u8 {
+    ghost from_gives = { λ loss kind. kind ≡ kind_of loss };
+
+    fn from(loss: Loss) -> u8 {
+        loss as u8
+    }
+}
+
+// Every kind says a loss: 0 and 1 the first two, and any other the last.
 impl From<u8> for Loss {
     ghost from_gives = { λ kind loss. loss ≡ loss_of kind };
 
@@ -33,11 +42,12 @@ impl From<u8> for Loss {
     }
 }
 
-// Serves `left` further accesses; the next one loses power.
+// Serves `left` further accesses; the next one loses power. The kind says what a write so lost leaves in its sector: the
+// old bytes (0), the new (1), or 90 in every byte (any other). It is a number, since a caller may have any of the 256.
 #[derive(Clone, Copy)]
 pub struct Script {
     pub left: u32,
-    pub loss: Loss,
+    pub kind: u8,
 }
 
 #[derive(Drop)]
@@ -81,7 +91,7 @@ impl<C> Cut<C> {
         if script.left == 0 {
             self.script = None;
             self.powered = false;
-            return Some(script.loss);
+            return Some(Loss::from(script.kind));
         }
         self.script = Some(Script {
             left: script.left - 1,

@@ -167,7 +167,7 @@ pub struct Trial {
 impl fmt::Display for Trial {
     fn fmt<W: fmt::Write>(&self, f: &mut fmt::Formatter<W>) -> fmt::Result {
         let put = self.put;
-        let kind = self.loss as u8;
+        let kind = u8::from(self.loss);
         let access = self.access;
         write!(f, "{put}, kind {kind}, cut in {access}")
     }
@@ -216,7 +216,7 @@ impl Trial {
     fn script(self, left: u32) -> Script {
         Script {
             left,
-            loss: self.loss,
+            kind: self.loss.into(),
         }
     }
 }

@@ -1,6 +1,6 @@
 // What ends a run: a line that is no call, or an input or output that fails.
 use std::alloc::AllocError;
-use std::io;
+use std::{fmt, io};
 use thiserror::Error;
 
 // What a line should have had at the place where it went wrong.
@@ -47,10 +47,17 @@ impl From<AllocError> for Expected {
     }
 }
 
-#[derive(Debug, Drop, Error)]
+#[derive(Drop, Error)]
 pub enum Fault {
     #[error("line {0}: expected {1}")]
     Line(u64, Expected),
     #[error(transparent)]
     Io(#[from] io::Error),
+}
+
+// `main` ends with this text. By hand, since an `anyhow::Error` keeps 120 bytes of it, and the longest lists 13 words.
+impl fmt::Debug for Fault {
+    fn fmt<W: fmt::Write>(&self, f: &mut fmt::Formatter<W>) -> fmt::Result {
+        write!(f, "{self}")
+    }
 }

@@ -2,7 +2,7 @@
 use crate::fault::Expected;
 use crate::order::{Order, Plan, Request};
 use card::SECTOR_BYTES;
-use cut::{Loss, Script};
+use cut::Script;
 use hex_text::HexError;
 use std::alloc::Global;
 
@@ -116,10 +116,9 @@ fn request(heap: Global, words: &[&str]) -> Result<Request, Expected> {
 
 fn cut(words: &[&str]) -> Result<Order, Expected> {
     let left = number_at(words, 1, Expected::Accesses)?;
-    let kind: u8 = number_at(words, 2, Expected::Kind)?;
+    let kind = number_at(words, 2, Expected::Kind)?;
     ends_at(words, 3)?;
-    let loss = Loss::from(kind);
-    Ok(Order::Cut(Script { left, loss }))
+    Ok(Order::Cut(Script { left, kind }))
 }
 
 fn dump(words: &[&str]) -> Result<Order, Expected> {

@@ -7,19 +7,15 @@ ghost use Rattle.cipher.specs.Maps.{Maps, Inverse};
 ghost use Rattle.xts.specs.Xts.{encipher, decipher, check as checkOf};
 ghost use Rattle.xts.specs.Calls.{Taken, Makes, unit_demands};
 
-use aes::Aes;
 use refusal::Refusal;
-use speck::Speck;
 
 mod checked;
+mod names;
 mod ring;
 
 pub use checked::CheckedKey;
+pub use names::{AesKey, SpeckKey, names_say_their_ciphers};
 pub use ring::Keyring;
-
-pub type AesKey = CheckedKey<Aes>;
-
-pub type SpeckKey = CheckedKey<Speck>;
 
 // A key of 64 bytes under one cipher, ready for use.
 pub trait LoadedKey: Sized {

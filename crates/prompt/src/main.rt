@@ -47,7 +47,7 @@ fn change_key<'a>(
     tell(rt, drive, Call::Step)?;
     drive.below().below().set_script(Script {
         left: 9,
-        loss: Loss::Junk,
+        kind: Loss::Junk.into(),
     });
     tell(rt, drive, Call::Step)?;
     tell(rt, drive, Call::PowerUp)?;

@@ -66,12 +66,12 @@ impl fmt::Display for UnknownNumber {
 
 impl Error for UnknownNumber {}
 
-// Written by hand, since the Display that thiserror derives promises no text.
-impl fmt::Display for Refusal {
-    ghost output = { λ e. Some (text_of e) };
-
-    fn fmt<W: fmt::Write>(&self, f: &mut fmt::Formatter<W>) -> fmt::Result {
-        f.pad(match self {
+impl Refusal {
+    // The refusal in words, for people. Display prints it; but printing can fail, and promises nothing where it does.
+    pub fn text(self) -> &'static str
+        ensures { result.now ≡ text_of self }
+    {
+        match self {
             Refusal::WrongLength => "a buffer, unit, key or label has the wrong length",
             Refusal::PowerOff => "the power is off",
             Refusal::OutOfRange => "the sector number or the reach is out of range",
@@ -81,7 +81,16 @@ impl fmt::Display for Refusal {
             Refusal::PermitOut => "a permit is out",
             Refusal::SectorsLeft => "sectors are left to re-key",
             Refusal::NothingLeft => "no sector is left to re-key",
-        })
+        }
+    }
+}
+
+// Written by hand, since the Display that thiserror derives promises no text.
+impl fmt::Display for Refusal {
+    ghost output = { λ e. Some (text_of e) };
+
+    fn fmt<W: fmt::Write>(&self, f: &mut fmt::Formatter<W>) -> fmt::Result {
+        f.pad(self.text())
     }
 }
 

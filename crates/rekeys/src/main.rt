@@ -25,9 +25,9 @@ fn cut_access(
     tally: &mut Tally,
 ) -> anyhow::Result<()> {
     for loss in [Loss::Old, Loss::New, Loss::Junk] {
-        let outcome = trial::run(rt.alloc(), Script { left, loss }, part)?;
+        let kind = u8::from(loss);
+        let outcome = trial::run(rt.alloc(), Script { left, kind }, part)?;
         let way = outcome.way;
-        let kind = loss as u8;
         println!(rt; "access {left}, {access} in {part}, kind {kind}: {way}")?;
         tally.cases = tally.cases.saturating_add(1);
         if !outcome.kept {

@@ -1,7 +1,9 @@
 // Runs a task.
-ghost use Rattle.std.specs.Prelude.{◌≡◌, IfOk, vec_items};
+ghost use Rattle.std.specs.Prelude.{◌≡◌, IfOk, MatchResult, vec_items};
+ghost use Rattle.refusal.specs.Demands.{FirstUnmet};
+ghost use Rattle.refusal.specs.Numbers.{numbered};
 ghost use Rattle.xts.specs.Calls.{call_demands, Makes};
-ghost use Rattle.units.specs.Runs.{block_demands, block_map, unit_map, forward_of, back_of, Passed, Came};
+ghost use Rattle.units.specs.Runs.{block_demands, demands_of, block_map, unit_map, forward_of, back_of, Passed, Came};
 
 use crate::task::{CipherName, Direction, Extent, Outcome, Task};
 use aes::Aes;
@@ -56,9 +58,28 @@ impl Task {
         }
     }
 
+    // The lengths of a block, tested before any memory is asked for, since a line may be long. XTS tests those of a unit.
+    fn test(&self) -> Result<(), Refusal>
+        ensures { MatchResult result (λ _. Unit {0}) (λ e. FirstUnmet (demands_of self.now.extent (vec_items self.now.key) (vec_items self.now.input)) (numbered e)) }
+    {
+        if let Extent::Unit(_) = self.extent {
+            return Ok(());
+        }
+        if self.key.len() != 32 {
+            return Err(Refusal::WrongLength);
+        }
+        if self.input.len() != 16 {
+            return Err(Refusal::WrongLength);
+        }
+        Ok(())
+    }
+
     pub fn run(&self, heap: Global) -> Result<Outcome, AllocError>
         ensures { IfOk result (λ o. Came self.now o) }
     {
+        if let Err(refusal) = self.test() {
+            return Ok(Err(refusal));
+        }
         let mut output = Vec::from_slice(heap, &self.input)?;
         Ok(self.pass(&mut output).map(|()| output))
     }

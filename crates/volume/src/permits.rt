@@ -1,7 +1,8 @@
 // Permits: while one is out, nobody else may load keys, format or claim. They are moved and never copied, nobody else can
 // make one, and a program that lets one go is refused: its drop asks that it was spent, which only a call of the volume
 // can show.
-ghost use Rattle.std.specs.Prelude.{◌≡◌, true};
+ghost use Rattle.std.specs.Prelude.{◌≡◌, true, if◌then◌else◌};
+ghost use Rattle.trailer.specs.declared.stage.Stage.TheVariants.{Resting as atRest, Changing as inChange};
 ghost use Rattle.volume.specs.Permits.{stage_held};
 ghost use Rattle.volume.specs.Answers.{verdict};
 
@@ -35,6 +36,17 @@ impl<const CHANGING: bool> Token<CHANGING> {
 
     pub(crate) fn spend(mut self) {
         self.spent = true;
+    }
+
+    // The stage of the key that it is for.
+    fn stage(&self) -> Stage
+        ensures { result ≡ (if CHANGING then inChange else atRest) }
+    {
+        if CHANGING {
+            Stage::Changing
+        } else {
+            Stage::Resting
+        }
     }
 
     // The next permit for this one, or where the call was refused this one again.
@@ -77,8 +89,8 @@ impl Permit {
         ensures { result ≡ stage_held self.now }
     {
         match self {
-            Permit::Resting(_) => Stage::Resting,
-            Permit::Changing(_) => Stage::Changing,
+            Permit::Resting(p) => p.stage(),
+            Permit::Changing(p) => p.stage(),
         }
     }
 
